@@ -21,7 +21,7 @@ use vm_kind::{Edits, Kind, Pages, TreeOf, Windows};
 use vm_map::call::Swap;
 use vm_map::key::Key;
 use vm_node::{Full, Place, in_buffer};
-use vm_owner::Owner;
+use vm_owner::Ungrouped;
 use vm_page::{LARGE, PageBuf};
 
 /// Nodes whose keys are byte strings. It is no value: it stands for their kind.
@@ -146,7 +146,7 @@ impl Pages for BytesKeys {
         page.get(i)
     }
 
-    fn read_all<U: Owner, B: Block>(
+    fn read_all<U: Ungrouped, B: Block>(
         guard: &OptGuard,
         words: &Words<U, B>,
         pass: &mut Pass<U>,

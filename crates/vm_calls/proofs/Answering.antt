@@ -2,6 +2,7 @@
 use Rattle.std.specs.Prelude.{IfErr, IfOk}
 use Rattle.std.proofs.Common.{⊎_elim, ◌⊎◌, Err, List, Ok, Result, ℕ}
 use Rattle.vm_map.specs.{declared.call.Call.Call, declared.call.Reply.Reply, declared.call.Said.Said}
+use Rattle.vm_map.specs.declared.window.Bound.{Bound}
 use Rattle.vm_map.specs.declared.call.Call.TheVariants.{Del, Get, Put, Range, Swap, Window}
 use Rattle.vm_step.specs.Prelude.{View}
 use Rattle.vm_tree_model.specs.{Fixed.fixed, Layout.Layout}
@@ -9,6 +10,7 @@ use Rattle.vm_tree_laws.specs.Plain.{KeepsPlain}
 use Rattle.vm_tree_range.specs.from_vm_tree_rule.{declared_fault_TreeFault.TreeFault, Leaves.ReadsOn, Turns.IsDamaged, Turns.IsNeeded}
 use Rattle.vm_tree_range.specs.from_vm_tree_read.Reads.{IsAnswered, IsOfKind}
 use Rattle.vm_tree_range.specs.from_vm_tree_read.Waiting.{IsFaulted as IsReadFaulted, IsReplied as IsReadReplied, Waits}
+use Rattle.vm_tree_range.specs.Ranges.{IsRangeFaulted, IsRangeReplied}
 use Rattle.vm_tree_retry.specs.from_vm_tree_split.Splits.{KeepsLocksOnly}
 use Rattle.vm_tree_retry.specs.Prelude.{IsDamagedBeside, IsMergeDone}
 use Rattle.vm_tree_retry.proofs.from_vm_tree_round.Deleting.{needed-inside}
@@ -92,6 +94,15 @@ module _ (size : ℕ) where
       (λ words key. HasValueIn L words key want) key fault v w) → IsTreeCall size (Swap key want value) r v w
   swap-tells key want value (Ok reply) v w ok kind err = (ok, kind)
   swap-tells key want value (Err fault) v w ok kind err = err
+
+  pub range-tells : (low : ℕ) (bound : Bound) (r : Result Reply TreeFault) (v w : View Said)
+      → IfOk r (λ reply. IsRangeReplied as_said L (record {
+        call = Range low bound;
+        reply = reply;
+      }) v w) → IfOk r (λ reply. IsOfKind (Range low bound) reply)
+      → IfErr r (λ fault. IsRangeFaulted L low bound fault v w) → IsTreeCall size (Range low bound) r v w
+  range-tells low bound (Ok reply) v w ok kind err = (ok, kind)
+  range-tells low bound (Err fault) v w ok kind err = err
 
   del-untold : (key p : ℕ) (v w : View Said) → ReadsOn v w → IsDamagedForDel L v key p w → IsUntold w p
   del-untold key p v w reads bad =

@@ -1,5 +1,5 @@
 -- The spans of a worker's calls: one for each range, taken before, and gone as the ranges are made.
-use Rattle.std.proofs.Common.{[], ◌+◌, ◌∷◌, ◌≡◌, ◌≤◌, arith, length, List, ℕ}
+use Rattle.std.proofs.Common.{[], ◌++◌, ◌+◌, ◌∷◌, ◌≡◌, ◌≤◌, arith, length, List, subst, ℕ}
 use Rattle.vm_map.specs.{declared.call.Call.Call, Map.Pairs}
 use Rattle.vm_map.specs.declared.call.Call.TheVariants as calls
 use Rattle.vm_rule.specs.Prelude.{Each}
@@ -23,3 +23,13 @@ module _ (n : ℕ) where
   pub spans-after : (call : Call) (rest : List Call) (old new : List (Pairs × ℕ)) → HasSpans n (call ∷ rest) old
       → length new + ranges_asked (call ∷ []) ≡ length old → Each (IsEmptySpan n) new → HasSpans n rest new
   spans-after call rest old new h fewer empty = record { count = omega (arith, h.count, ranges-first call rest, fewer); empty = empty }
+
+  front-last : (new : List (Pairs × ℕ)) (out : Pairs × ℕ) → Each (IsEmptySpan n) (new ++ out ∷ [])
+      → Each (IsEmptySpan n) new × IsEmptySpan n out
+  front-last [] out e = (tt, e.0)
+  front-last (x ∷ xs) out e = let k = front-last xs out e.1 in ((e.0, k.0), k.1)
+
+  -- the last one that is taken is empty, and so are those that are left
+  pub last-taken : (old new : List (Pairs × ℕ)) (out : Pairs × ℕ) → old ≡ new ++ out ∷ [] → Each (IsEmptySpan n) old
+      → Each (IsEmptySpan n) new × IsEmptySpan n out
+  last-taken old new out is empty = front-last new out (subst (Each (IsEmptySpan n)) is empty)

@@ -3,6 +3,7 @@
 ghost use Rattle.std.specs.List.{AllByRecursion};
 ghost use Rattle.std.specs.Prelude.{[], ◌+◌, ◌∷◌, ◌≡◌, ◌≤◌, length, None};
 ghost use Rattle.vm_map.specs.History.{IsAskable};
+ghost use Rattle.vm_map.specs.declared.call.Call.TheVariants.{Del, Get, Put, Range, Swap, Window};
 ghost use Rattle.vm_rule.specs.Prelude.{Each, HoldsNoPage};
 ghost use Rattle.vm_step.specs.Prelude.{AreHeld, IsReadyOn, view};
 ghost use Rattle.vm_tree_range.specs.from_vm_tree_read.Waiting.{LosesNone};
@@ -16,6 +17,7 @@ use std::sync::Wait;
 use vm_block::PageBlock;
 use vm_map::call::Call;
 use vm_map::span::Span;
+use vm_map::window::Bound;
 use vm_owner::Owner;
 use vm_rule::words::Pass;
 use vm_tree_range::exmap::Interface;
@@ -33,6 +35,141 @@ pub struct Worker<U: Owner, A, M> {
     pub answers: A,
     /// What those of its calls that are not made yet need beside, taken before the first of them.
     pub memory: M,
+}
+
+// Makes a get. What a call of the tree says is much, and a proof that has several of them at once grows with each: so there is a function for each kind of call,
+// and `answer` has none of the tree's calls itself.
+fn answer_get<S: OfSize<N>, R: Wait, B: PageBlock<N>, const N: usize>(
+    rt: &R,
+    pool: &Pool<TreeOf<WordKeys<S, N>>, B, N>,
+    pass: &mut Pass<TreeOf<WordKeys<S, N>>>,
+    iface: &mut Interface,
+    key: u64,
+) -> Answer
+    requires ready { IsReadyOn pool.now.words B.tells pass.old }
+    requires home { (view pass.old).out ≡ None }
+    requires frames { AreHeld iface.old.frames (view pass.old) }
+    requires pages { 1 ≤ pool.now.words.table.shared.key.pages }
+    ensures ready { IsReadyOn pool.now.words B.tells pass.new }
+    ensures call { IsTreeCall N (Get key) result (view pass.old) (view pass.new) }
+    ensures held { AreHeld iface.new.frames (view pass.new) }
+    ensures lost { LosesNone iface.old.frames (view pass.old) iface.new.frames (view pass.new) }
+{
+    get(rt, pool, pass, iface, &key)
+}
+
+// Makes a put.
+fn answer_put<S: OfSize<N>, R: Wait, B: PageBlock<N>, const N: usize>(
+    rt: &R,
+    pool: &Pool<TreeOf<WordKeys<S, N>>, B, N>,
+    pass: &mut Pass<TreeOf<WordKeys<S, N>>>,
+    iface: &mut Interface,
+    key: u64,
+    value: u64,
+) -> Answer
+    requires ready { IsReadyOn pool.now.words B.tells pass.old }
+    requires home { (view pass.old).out ≡ None }
+    requires frames { AreHeld iface.old.frames (view pass.old) }
+    requires pages { 1 ≤ pool.now.words.table.shared.key.pages }
+    ensures ready { IsReadyOn pool.now.words B.tells pass.new }
+    ensures call { IsTreeCall N (Put key value) result (view pass.old) (view pass.new) }
+    ensures held { AreHeld iface.new.frames (view pass.new) }
+    ensures lost { LosesNone iface.old.frames (view pass.old) iface.new.frames (view pass.new) }
+{
+    put(rt, pool, pass, iface, &key, value)
+}
+
+// Makes a del.
+fn answer_del<S: OfSize<N>, R: Wait, B: PageBlock<N>, const N: usize>(
+    rt: &R,
+    pool: &Pool<TreeOf<WordKeys<S, N>>, B, N>,
+    pass: &mut Pass<TreeOf<WordKeys<S, N>>>,
+    iface: &mut Interface,
+    key: u64,
+) -> Answer
+    requires ready { IsReadyOn pool.now.words B.tells pass.old }
+    requires home { (view pass.old).out ≡ None }
+    requires frames { AreHeld iface.old.frames (view pass.old) }
+    requires pages { 1 ≤ pool.now.words.table.shared.key.pages }
+    ensures ready { IsReadyOn pool.now.words B.tells pass.new }
+    ensures call { IsTreeCall N (Del key) result (view pass.old) (view pass.new) }
+    ensures held { AreHeld iface.new.frames (view pass.new) }
+    ensures lost { LosesNone iface.old.frames (view pass.old) iface.new.frames (view pass.new) }
+{
+    del(rt, pool, pass, iface, &key)
+}
+
+// Makes a window.
+fn answer_window<S: OfSize<N>, R: Wait, B: PageBlock<N>, const N: usize>(
+    rt: &R,
+    pool: &Pool<TreeOf<WordKeys<S, N>>, B, N>,
+    pass: &mut Pass<TreeOf<WordKeys<S, N>>>,
+    iface: &mut Interface,
+    start: u64,
+    most: u32,
+) -> Answer
+    requires ready { IsReadyOn pool.now.words B.tells pass.old }
+    requires home { (view pass.old).out ≡ None }
+    requires frames { AreHeld iface.old.frames (view pass.old) }
+    requires pages { 1 ≤ pool.now.words.table.shared.key.pages }
+    requires most { 1 ≤ most }
+    ensures ready { IsReadyOn pool.now.words B.tells pass.new }
+    ensures call { IsTreeCall N (Window start most) result (view pass.old) (view pass.new) }
+    ensures held { AreHeld iface.new.frames (view pass.new) }
+    ensures lost { LosesNone iface.old.frames (view pass.old) iface.new.frames (view pass.new) }
+{
+    window(rt, pool, pass, iface, &start, most)
+}
+
+// Makes a swap.
+fn answer_swap<S: OfSize<N>, R: Wait, B: PageBlock<N>, const N: usize>(
+    rt: &R,
+    pool: &Pool<TreeOf<WordKeys<S, N>>, B, N>,
+    pass: &mut Pass<TreeOf<WordKeys<S, N>>>,
+    iface: &mut Interface,
+    key: u64,
+    want: u64,
+    value: u64,
+) -> Answer
+    requires ready { IsReadyOn pool.now.words B.tells pass.old }
+    requires home { (view pass.old).out ≡ None }
+    requires frames { AreHeld iface.old.frames (view pass.old) }
+    requires pages { 1 ≤ pool.now.words.table.shared.key.pages }
+    ensures ready { IsReadyOn pool.now.words B.tells pass.new }
+    ensures call { IsTreeCall N (Swap key want value) result (view pass.old) (view pass.new) }
+    ensures held { AreHeld iface.new.frames (view pass.new) }
+    ensures lost { LosesNone iface.old.frames (view pass.old) iface.new.frames (view pass.new) }
+{
+    swap(rt, pool, pass, iface, &key, want, value)
+}
+
+// Makes a range, which takes one of the spans.
+fn answer_range<S: OfSize<N>, R: Wait, B: PageBlock<N>, const N: usize>(
+    rt: &R,
+    pool: &Pool<TreeOf<WordKeys<S, N>>, B, N>,
+    pass: &mut Pass<TreeOf<WordKeys<S, N>>>,
+    iface: &mut Interface,
+    spans: &mut Vec<Span>,
+    low: u64,
+    bound: Bound,
+) -> Answer
+    requires ready { IsReadyOn pool.now.words B.tells pass.old }
+    requires home { (view pass.old).out ≡ None }
+    requires frames { AreHeld iface.old.frames (view pass.old) }
+    requires pages { 1 ≤ pool.now.words.table.shared.key.pages }
+    requires some { 1 ≤ length spans.old.items }
+    requires empty { Each (IsEmptySpan N) spans.old.items }
+    ensures ready { IsReadyOn pool.now.words B.tells pass.new }
+    ensures call { IsTreeCall N (Range low bound) result (view pass.old) (view pass.new) }
+    ensures spans { length spans.new.items + 1 ≡ length spans.old.items }
+    ensures empty { Each (IsEmptySpan N) spans.new.items }
+    ensures held { AreHeld iface.new.frames (view pass.new) }
+    ensures lost { LosesNone iface.old.frames (view pass.old) iface.new.frames (view pass.new) }
+{
+    let Some(out) = spans.pop() else {
+        unreachable!()
+    };
+    range(rt, pool, pass, iface, &low, bound, out)
 }
 
 // Makes one call. A range takes one of the spans.
@@ -60,17 +197,12 @@ fn answer<S: OfSize<N>, R: Wait, B: PageBlock<N>, const N: usize>(
     ensures lost { LosesNone iface.old.frames (view pass.old) iface.new.frames (view pass.new) }
 {
     match *call {
-        Call::Get { key } => get(rt, pool, pass, iface, &key),
-        Call::Put { key, value } => put(rt, pool, pass, iface, &key, value),
-        Call::Del { key } => del(rt, pool, pass, iface, &key),
-        Call::Window { start, most } => window(rt, pool, pass, iface, &start, most),
-        Call::Swap { key, want, value } => swap(rt, pool, pass, iface, &key, want, value),
-        Call::Range { low, bound } => {
-            let Some(out) = spans.pop() else {
-                unreachable!()
-            };
-            range(rt, pool, pass, iface, &low, bound, out)
-        }
+        Call::Get { key } => answer_get(rt, pool, pass, iface, key),
+        Call::Put { key, value } => answer_put(rt, pool, pass, iface, key, value),
+        Call::Del { key } => answer_del(rt, pool, pass, iface, key),
+        Call::Window { start, most } => answer_window(rt, pool, pass, iface, start, most),
+        Call::Swap { key, want, value } => answer_swap(rt, pool, pass, iface, key, want, value),
+        Call::Range { low, bound } => answer_range(rt, pool, pass, iface, spans, low, bound),
     }
 }
 

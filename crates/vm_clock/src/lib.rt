@@ -14,7 +14,7 @@ use crate::met::{MASKS, is_met, no_pages, note};
 use arrayvec::ArrayVec;
 use vm_block::Block;
 use vm_event::{FRAMES, MAX_VERSION, StateWord};
-use vm_owner::Owner;
+use vm_owner::Ungrouped;
 use vm_supply::hand;
 use vm_supply::rule::{Pass, Words};
 use vm_supply::step::{Candidates, Looks, Took, look_silently, mark, oload};
@@ -32,7 +32,7 @@ const NO_LOOKS: Looks = Looks {
 };
 
 /// Chooses up to `want` (1 to 64) candidates, with at most two looks at each frame of the table.
-pub fn candidates<U: Owner, B: Block>(
+pub fn candidates<U: Ungrouped, B: Block>(
     words: &Words<U, B>,
     pass: &mut Pass<U>,
     want: u32,
@@ -81,7 +81,7 @@ fn frame_after(frame: usize, frames: usize) -> usize
 }
 
 /// Looks at the page that stands in the frame, where its owner word names one, and counts what the look came to.
-fn visit_frame<U: Owner, B: Block>(
+fn visit_frame<U: Ungrouped, B: Block>(
     words: &Words<U, B>,
     pass: &mut Pass<U>,
     f: u32,
@@ -106,7 +106,7 @@ fn visit_frame<U: Owner, B: Block>(
 }
 
 /// Looks at the page and counts what the look came to: the first that fits. An unlocked page is marked, a marked one is chosen.
-fn visit<U: Owner, B: Block>(
+fn visit<U: Ungrouped, B: Block>(
     words: &Words<U, B>,
     pass: &mut Pass<U>,
     p: u32,

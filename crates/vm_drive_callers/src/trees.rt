@@ -113,5 +113,5 @@ pub fn open(
         next: image.next(),
         first_version,
     };
-    Ok(Pool::start(alloc, shape, blocks, &[])?)
+    Ok(Pool::start(alloc, shape, blocks, &[], &[])?)
 }

@@ -10,7 +10,7 @@ use crate::candidate::{Phase, Stage, advance};
 use crate::report::Evicted;
 use vm_block::PageBlock;
 use vm_event::FRAMES;
-use vm_owner::Owner;
+use vm_owner::Ungrouped;
 use vm_rule::words::{Pass, Words};
 use vm_supply::step::Looks;
 
@@ -25,7 +25,7 @@ pub(crate) fn waiting() -> Stages
 }
 
 /// One phase, over the whole list.
-pub(crate) fn pass_over<U: Owner, B: PageBlock<N>, const N: usize>(
+pub(crate) fn pass_over<U: Ungrouped, B: PageBlock<N>, const N: usize>(
     words: &Words<U, B>,
     pass: &mut Pass<U>,
     phase: Phase,

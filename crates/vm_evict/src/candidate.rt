@@ -10,7 +10,7 @@ ghost use Rattle.vm_evict.specs.Stages.{Advances, Carries, IsAt, MayBeginPhase};
 use crate::write::{dirty_frame, write_where_dirty};
 use vm_block::{Block, PageBlock};
 use vm_event::{StateWord, TransWord};
-use vm_owner::Owner;
+use vm_owner::Ungrouped;
 use vm_rule::words::{Pass, Words};
 use vm_supply::step::{
     Took, clear, disown, lock_exclusive, lock_write_back, look_silently, release_evicted, tload,
@@ -54,7 +54,7 @@ pub enum Stage {
 }
 
 /// Shares a page from its mark that was not seen clean with it, and writes it where it is dirty. Where the write fails, gives the share up.
-fn save_marked<U: Owner, B: PageBlock<N>, const N: usize>(
+fn save_marked<U: Ungrouped, B: PageBlock<N>, const N: usize>(
     words: &Words<U, B>,
     pass: &mut Pass<U>,
     p: u32,
@@ -83,7 +83,7 @@ fn save_marked<U: Owner, B: PageBlock<N>, const N: usize>(
 }
 
 /// Looks at a candidate: where it is as it was marked, and clean, it is left to be locked; else it is shared and written.
-fn save_page<U: Owner, B: PageBlock<N>, const N: usize>(
+fn save_page<U: Ungrouped, B: PageBlock<N>, const N: usize>(
     words: &Words<U, B>,
     pass: &mut Pass<U>,
     p: u32,
@@ -108,7 +108,7 @@ fn save_page<U: Owner, B: PageBlock<N>, const N: usize>(
 }
 
 /// Locks a page exclusively that was seen clean, from its mark.
-fn lock_clean<U: Owner, B: Block>(
+fn lock_clean<U: Ungrouped, B: Block>(
     words: &Words<U, B>,
     pass: &mut Pass<U>,
     p: u32,
@@ -127,7 +127,7 @@ fn lock_clean<U: Owner, B: Block>(
 }
 
 /// Makes the lock of a clean page under write-back exclusive, from the pass's share alone; or gives the share up.
-fn raise_shared<U: Owner, B: Block>(
+fn raise_shared<U: Ungrouped, B: Block>(
     words: &Words<U, B>,
     pass: &mut Pass<U>,
     p: u32,
@@ -152,7 +152,7 @@ fn raise_shared<U: Owner, B: Block>(
 }
 
 /// Takes a clean page, which is held exclusively, out of its frame, whose owner word names it no more. The frame comes to the pass.
-fn empty_page<U: Owner, B: Block>(
+fn empty_page<U: Ungrouped, B: Block>(
     words: &Words<U, B>,
     pass: &mut Pass<U>,
     p: u32,
@@ -175,7 +175,7 @@ fn empty_page<U: Owner, B: Block>(
 }
 
 /// Releases a page that was taken out of its frame, as evicted.
-fn leave_page<U: Owner, B: Block>(
+fn leave_page<U: Ungrouped, B: Block>(
     words: &Words<U, B>,
     pass: &mut Pass<U>,
     p: u32,
@@ -195,7 +195,7 @@ fn leave_page<U: Owner, B: Block>(
 }
 
 /// What the phase does with a candidate at this stage. It answers the next one.
-pub(crate) fn advance<U: Owner, B: PageBlock<N>, const N: usize>(
+pub(crate) fn advance<U: Ungrouped, B: PageBlock<N>, const N: usize>(
     words: &Words<U, B>,
     pass: &mut Pass<U>,
     phase: Phase,

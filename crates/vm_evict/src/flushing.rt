@@ -9,7 +9,7 @@ ghost use Rattle.vm_evict.specs.Flushes.{done_of, IsCounted, IsFlushed, IsVisit,
 use crate::write::{dirty_frame, write_where_dirty};
 use vm_block::{Block, PageBlock};
 use vm_event::StateWord;
-use vm_owner::Owner;
+use vm_owner::Ungrouped;
 use vm_rule::words::{Pass, Words};
 use vm_supply::step::{Took, lock_write_back, look_silently, mark, tload, unlock_shared};
 
@@ -35,7 +35,7 @@ const NOTHING: Flushed = Flushed {
 };
 
 /// Writes each dirty page of the table to its block, from page 0 on, and makes it clean. Pages that somebody has locked are left.
-pub fn flush<U: Owner, B: PageBlock<N>, const N: usize>(
+pub fn flush<U: Ungrouped, B: PageBlock<N>, const N: usize>(
     words: &Words<U, B>,
     pass: &mut Pass<U>,
 ) -> Flushed
@@ -54,7 +54,7 @@ pub fn flush<U: Owner, B: PageBlock<N>, const N: usize>(
 }
 
 /// Looks at the page, and writes it where it is dirty and nobody has it locked.
-fn visit<U: Owner, B: PageBlock<N>, const N: usize>(
+fn visit<U: Ungrouped, B: PageBlock<N>, const N: usize>(
     words: &Words<U, B>,
     pass: &mut Pass<U>,
     p: u32,
@@ -79,7 +79,7 @@ fn visit<U: Owner, B: PageBlock<N>, const N: usize>(
 }
 
 /// Writes the page, which a look found with this word, locked by nobody, where it is dirty.
-fn visit_unheld<U: Owner, B: PageBlock<N>, const N: usize>(
+fn visit_unheld<U: Ungrouped, B: PageBlock<N>, const N: usize>(
     words: &Words<U, B>,
     pass: &mut Pass<U>,
     p: u32,
@@ -116,7 +116,12 @@ fn visit_unheld<U: Owner, B: PageBlock<N>, const N: usize>(
 }
 
 /// Marks a page whose word was this one, where it is not marked already.
-fn mark_page<U: Owner, B: Block>(words: &Words<U, B>, pass: &mut Pass<U>, p: u32, word: u64) -> Took
+fn mark_page<U: Ungrouped, B: Block>(
+    words: &Words<U, B>,
+    pass: &mut Pass<U>,
+    p: u32,
+    word: u64,
+) -> Took
     requires ready { IsReadyOn words.now B.tells pass.old }
     requires page { p < words.now.table.shared.key.pages }
     requires legal { (state_of word ≡ UNLOCKED) ⊎ (state_of word ≡ MARKED) }

@@ -18,14 +18,14 @@ use candidate::Phase;
 pub use flushing::{Flushed, flush};
 use report::Evicted;
 use vm_block::PageBlock;
-use vm_owner::Owner;
+use vm_owner::Ungrouped;
 use vm_rule::words::{Pass, Words};
 use vm_supply::step::Candidates;
 
 /// Evicts candidates, in phases: dirty ones are shared from their mark and written; clean ones are locked exclusively; the written ones become
 /// exclusive from one share; all are taken out of their frames; all are released as evicted. A page whose write fails stays resident and dirty.
 /// The frames are those of the evicted pages, in their order.
-pub fn evict<U: Owner, B: PageBlock<N>, const N: usize>(
+pub fn evict<U: Ungrouped, B: PageBlock<N>, const N: usize>(
     words: &Words<U, B>,
     pass: &mut Pass<U>,
     candidates: &Candidates,

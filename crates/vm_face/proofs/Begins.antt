@@ -16,7 +16,7 @@ contents-held : (size : ℕ) (tells : Bool) (blocks : List Stored) → tells ≡
 contents-held size tells blocks t = subst (λ (told : Bool). contents_of size told blocks ≡ block_words blocks) (sym t) refl
 
 module _ (size : ℕ) (tells : Bool) (version next : ℕ) (free : List ℕ) (frames : ℕ) (blocks : List Stored) (v : View Said)
-    (is : v ≡ begun (unborn (started_shape size tells version next free frames blocks))) where
+    (is : v ≡ begun (unborn (started_shape size tells version next free [] frames blocks))) where
   fresh-is : v.fresh ≡ numbers 1 4294967295
   fresh-is = ap (λ (x : View Said). x.fresh) is
 

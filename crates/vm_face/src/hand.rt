@@ -17,7 +17,7 @@ use vm_handover::Giver;
 use vm_map::call::Reply;
 use vm_map::span::Span;
 use vm_map::window::Bound;
-use vm_owner::Owner;
+use vm_owner::{Owner, Ungrouped};
 use vm_rule::words::Pass;
 use vm_serve::exmap::Interface;
 use vm_serve::kind::{OfSize, TreeOf, WordKeys};
@@ -36,7 +36,7 @@ pub struct Hand<U: Owner, B: PageBlock<N> + Drop, const N: usize> {
     pub way: Giver<Returned<U, B, N>>,
 }
 
-impl<U: Owner, B: PageBlock<N> + Drop, const N: usize> Hand<U, B, N> {
+impl<U: Ungrouped, B: PageBlock<N> + Drop, const N: usize> Hand<U, B, N> {
     /// Ends the hand. The store that gave it takes it in when it looks next (`TreeStore::take_in`).
     pub fn leave(self)
         requires hand { IsHandOf (made_with self.way) (arc_value self.pool).words B.tells self.pass self.iface.frames }

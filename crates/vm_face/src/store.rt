@@ -21,7 +21,7 @@ use vm_block::PageBlock;
 use vm_event::Memory;
 use vm_evict::{Flushed, flush};
 use vm_handover::{Taker, handover};
-use vm_owner::Owner;
+use vm_owner::{Owner, Ungrouped};
 use vm_rule::words::Pass;
 use vm_serve::exmap::Interface;
 use vm_serve::kind::{OfSize, TreeOf, WordKeys};
@@ -89,7 +89,7 @@ pub fn open_on<S: OfSize<N>, B: PageBlock<N> + Drop, const N: usize>(
         → IsStoreOpened B.tells pages (view store.pass)) }
     ensures none { IfOk result (λ store. (store.homes.items ≡ []) × (store.ever ≡ 0) × ((view store.pass).seen ≡ [])) }
 {
-    let (pool, pass) = Pool::start(alloc, shape, blocks, free)?;
+    let (pool, pass) = Pool::start(alloc, shape, blocks, free, &[])?;
     let Ok(homes) = Vec::with_capacity(alloc, MOST_HANDS) else {
         return Err(Memory);
     };
@@ -104,7 +104,7 @@ pub fn open_on<S: OfSize<N>, B: PageBlock<N> + Drop, const N: usize>(
     }
 }
 
-impl<U: Owner, B: PageBlock<N> + Drop, const N: usize> TreeStore<U, B, N> {
+impl<U: Ungrouped, B: PageBlock<N> + Drop, const N: usize> TreeStore<U, B, N> {
     /// How many pages the store has.
     pub fn pages(&self) -> usize
         ensures { result ≡ (arc_value self.now.pool).words.table.shared.key.pages }

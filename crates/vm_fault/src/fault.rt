@@ -8,7 +8,7 @@ ghost use Rattle.vm_fault.specs.Fetches.{IsFetched, IsFoundEvicted};
 
 use vm_block::PageBlock;
 use vm_event::{MAX_VERSION, StateWord};
-use vm_owner::Owner;
+use vm_owner::Ungrouped;
 use vm_page::PageBuf;
 use vm_supply::rule::{Pass, Words};
 use vm_supply::step::{
@@ -45,7 +45,7 @@ fn again(pid: u32, frame: u32, first: u64, seen: u64) -> Fetch
 }
 
 /// Reads the block of the page, which was locked Evicted at `version`, and releases the page: resident in the frame, or Evicted again.
-fn bring_locked<U: Owner, B: PageBlock<N>, const N: usize>(
+fn bring_locked<U: Ungrouped, B: PageBlock<N>, const N: usize>(
     words: &Words<U, B>,
     pass: &mut Pass<U>,
     pid: u32,
@@ -86,7 +86,7 @@ fn bring_locked<U: Owner, B: PageBlock<N>, const N: usize>(
 
 /// Brings page `pid`, where it is Evicted below the last version, from its block into a frame of the pass, with at most one call of the
 /// device. On every answer but `Brought` the frame comes back with it.
-pub fn fault_in<U: Owner, B: PageBlock<N>, const N: usize>(
+pub fn fault_in<U: Ungrouped, B: PageBlock<N>, const N: usize>(
     words: &Words<U, B>,
     pass: &mut Pass<U>,
     pid: u32,

@@ -15,7 +15,7 @@ use crate::shared::SharedGuard;
 use crate::standing::{Lock, standing};
 use vm_block::Block;
 use vm_event::StateWord;
-use vm_owner::Owner;
+use vm_owner::Ungrouped;
 use vm_rule::words::{Pass, Words};
 use vm_step::{
     At, Saw, Took, downgrade, load, lock_exclusive, look_silently, release, release_silently,
@@ -47,7 +47,7 @@ fn expected(word: u64, pid: u32) -> Result<u64, Deny>
 
 impl ExclusiveGuard {
     /// Locks the page exclusively, which has to be resident, with no lock by anyone, and below the last version.
-    pub fn take<U: Owner, B: Block>(
+    pub fn take<U: Ungrouped, B: Block>(
         words: &Words<U, B>,
         pass: &mut Pass<U>,
         pid: u32,
@@ -82,7 +82,12 @@ impl ExclusiveGuard {
     }
 
     /// Word `i` of the draft.
-    pub fn read<U: Owner, B: Block>(&self, words: &Words<U, B>, pass: &mut Pass<U>, i: usize) -> u64
+    pub fn read<U: Ungrouped, B: Block>(
+        &self,
+        words: &Words<U, B>,
+        pass: &mut Pass<U>,
+        i: usize,
+    ) -> u64
         requires ready { IsReadyOn words.now B.tells pass.old }
         requires holds { IsHolding self.now.pid self.now.frame self.now.version self.now.dirty (view pass.old) }
         requires word { i < words.now.table.shared.key.size }
@@ -95,7 +100,7 @@ impl ExclusiveGuard {
     }
 
     /// Makes the page dirty, where it is clean.
-    fn make_dirty<U: Owner, B: Block>(&mut self, words: &Words<U, B>, pass: &mut Pass<U>)
+    fn make_dirty<U: Ungrouped, B: Block>(&mut self, words: &Words<U, B>, pass: &mut Pass<U>)
         requires ready { IsReadyOn words.now B.tells pass.old }
         requires holds { IsHolding self.old.pid self.old.frame self.old.version self.old.dirty (view pass.old) }
         ensures goes { GoesOn words.now B.tells pass.old pass.new }
@@ -109,7 +114,7 @@ impl ExclusiveGuard {
     }
 
     /// Sets word `i` of the draft. A clean page is made dirty first.
-    pub fn set<U: Owner, B: Block>(
+    pub fn set<U: Ungrouped, B: Block>(
         &mut self,
         words: &Words<U, B>,
         pass: &mut Pass<U>,
@@ -129,7 +134,7 @@ impl ExclusiveGuard {
     }
 
     /// Releases the page: the draft is its last version from then on, the next one. What is said becomes an entry there.
-    pub fn release<U: Owner, B: Block>(
+    pub fn release<U: Ungrouped, B: Block>(
         self,
         words: &Words<U, B>,
         pass: &mut Pass<U>,
@@ -155,7 +160,7 @@ impl ExclusiveGuard {
     }
 
     /// Releases the page, and keeps a share of it: the draft is its last version from then on, the next one. Nothing is said.
-    pub fn downgrade<U: Owner, B: Block>(
+    pub fn downgrade<U: Ungrouped, B: Block>(
         self,
         words: &Words<U, B>,
         pass: &mut Pass<U>,
@@ -182,7 +187,7 @@ impl ExclusiveGuard {
     }
 
     /// Releases the page first of a group, whose other members are `rest`: the drafts of all of them are logical from then on.
-    pub(crate) fn release_first<U: Owner, B: Block>(
+    pub(crate) fn release_first<U: Ungrouped, B: Block>(
         self,
         words: &Words<U, B>,
         pass: &mut Pass<U>,
@@ -208,7 +213,11 @@ impl ExclusiveGuard {
     }
 
     /// Releases a later member of a group that is released in part.
-    pub(crate) fn release_later<U: Owner, B: Block>(self, words: &Words<U, B>, pass: &mut Pass<U>)
+    pub(crate) fn release_later<U: Ungrouped, B: Block>(
+        self,
+        words: &Words<U, B>,
+        pass: &mut Pass<U>,
+    )
         requires ready { IsReadyOn words.now B.tells pass.old }
         requires due { IsDue self.pid self.version (view pass.old) }
         ensures goes { GoesOn words.now B.tells pass.old pass.new }

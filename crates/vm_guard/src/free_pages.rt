@@ -16,7 +16,7 @@ use crate::given::{Fresh, NoRoom};
 use crate::group::Group;
 use vm_block::Block;
 use vm_event::{Bundle, FRAMES};
-use vm_owner::Owner;
+use vm_owner::Ungrouped;
 use vm_rule::words::{Pass, Words};
 use vm_step::{At, Batch, Saw, Took, pbload, pgive, ptake};
 
@@ -34,7 +34,7 @@ fn bits(word: u64) -> u32
 }
 
 /// The first free-number word that has `n` bits at least, as loads of these words show, from the first one on: its number, and what it was found to be.
-fn find_free<U: Owner, B: Block>(
+fn find_free<U: Ungrouped, B: Block>(
     words: &Words<U, B>,
     pass: &mut Pass<U>,
     n: u32,
@@ -75,7 +75,7 @@ fn numbers_due(deny: &Deny, bit: u64, mask: u64) -> u64
 }
 
 /// Gives the numbers of this mask back, if there are any.
-fn give_numbers<U: Owner, B: Block>(words: &Words<U, B>, pass: &mut Pass<U>, g: u32, mask: u64)
+fn give_numbers<U: Ungrouped, B: Block>(words: &Words<U, B>, pass: &mut Pass<U>, g: u32, mask: u64)
     requires ready { IsReadyOn words.now B.tells pass.old }
     requires word { g * FRAMES < words.now.table.shared.key.pages }
     requires legal { mask ≢ 0 → PassMayGiveNumbers (view pass.old) g mask }
@@ -89,7 +89,7 @@ fn give_numbers<U: Owner, B: Block>(words: &Words<U, B>, pass: &mut Pass<U>, g: 
 }
 
 /// The page of the mask, whose number was taken from free-number word `g`, as a fresh one; or else the number is given back.
-fn reuse_one<U: Owner, B: Block>(
+fn reuse_one<U: Ungrouped, B: Block>(
     words: &Words<U, B>,
     pass: &mut Pass<U>,
     frames: &mut Batch,
@@ -118,7 +118,7 @@ fn reuse_one<U: Owner, B: Block>(
 }
 
 /// The two pages of the mask, whose numbers were taken from free-number word `g`, as fresh ones; or else the numbers are given back.
-fn reuse_two<U: Owner, B: Block>(
+fn reuse_two<U: Ungrouped, B: Block>(
     words: &Words<U, B>,
     pass: &mut Pass<U>,
     frames: &mut Batch,
@@ -160,7 +160,7 @@ fn reuse_two<U: Owner, B: Block>(
 }
 
 /// Takes the numbers of the `n` lowest bits of free-number word `g`, which was found to be `word`, and locks their pages; or else gives the numbers back.
-fn reuse<U: Owner, B: Block>(
+fn reuse<U: Ungrouped, B: Block>(
     words: &Words<U, B>,
     pass: &mut Pass<U>,
     frames: &mut Batch,
@@ -200,7 +200,7 @@ fn reuse<U: Owner, B: Block>(
 
 /// Whether there is room for `n` pages, as one load of each free-number word shows, up to the first that has `n` bits, and else one of the next word: a word has
 /// that many, or so many pages are left from the next one on. It takes, locks and claims nothing, so other passes may have done so by then.
-pub fn room_for<U: Owner, B: Block>(
+pub fn room_for<U: Ungrouped, B: Block>(
     words: &Words<U, B>,
     pass: &mut Pass<U>,
     n: u32,
@@ -224,7 +224,7 @@ pub fn room_for<U: Owner, B: Block>(
 /// of which there are at least `n`, without a read of its block. On every other answer nothing is claimed, no lock is kept, the frames are as they were, and
 /// numbers that were taken are given back, but that of a page at its last version. A pass that is alone and knows that each of these pages can be locked is
 /// given them.
-pub fn fresh<U: Owner, B: Block>(
+pub fn fresh<U: Ungrouped, B: Block>(
     words: &Words<U, B>,
     pass: &mut Pass<U>,
     frames: &mut Batch,

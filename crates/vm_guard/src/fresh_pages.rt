@@ -17,7 +17,7 @@ use crate::group::Group;
 use crate::standing::Lock;
 use vm_block::Block;
 use vm_event::{MAX_VERSION, Mapping, StateWord, TransWord};
-use vm_owner::Owner;
+use vm_owner::Ungrouped;
 use vm_rule::words::{Pass, Words};
 use vm_step::{
     At, Batch, Saw, Took, blank, claim, install, lock_exclusive, look_silently, nload, own,
@@ -64,7 +64,7 @@ pub(crate) fn expected(word: u64, pid: u32) -> Result<u64, Deny>
 }
 
 /// Locks the page exclusively, whether or not it is resident, and sees where it stands.
-pub(crate) fn seize<U: Owner, B: Block>(
+pub(crate) fn seize<U: Ungrouped, B: Block>(
     words: &Words<U, B>,
     pass: &mut Pass<U>,
     pid: u32,
@@ -98,7 +98,11 @@ pub(crate) fn seize<U: Owner, B: Block>(
 }
 
 /// Gives the lock up, with the words that the page had: the page is resident or evicted as it was, at its next version.
-pub(crate) fn give_back<U: Owner, B: Block>(words: &Words<U, B>, pass: &mut Pass<U>, page: Seized)
+pub(crate) fn give_back<U: Ungrouped, B: Block>(
+    words: &Words<U, B>,
+    pass: &mut Pass<U>,
+    page: Seized,
+)
     requires ready { IsReadyOn words.now B.tells pass.old }
     requires seized { IsSeized page.pid page.version page.stands (view pass.old) }
     requires home { (view pass.old).out ≡ None }
@@ -118,7 +122,7 @@ pub(crate) fn give_back<U: Owner, B: Block>(words: &Words<U, B>, pass: &mut Pass
 }
 
 /// The page as a guard: in the frame in which it stands, or else in a frame of zeros, the last of these.
-pub(crate) fn furnish<U: Owner, B: Block>(
+pub(crate) fn furnish<U: Ungrouped, B: Block>(
     words: &Words<U, B>,
     pass: &mut Pass<U>,
     page: Seized,
@@ -180,7 +184,7 @@ pub(crate) fn denied(deny: Deny) -> Fresh
 }
 
 /// The page as a fresh one, claimed alone, where the next word is still what it was.
-fn give_one<U: Owner, B: Block>(
+fn give_one<U: Ungrouped, B: Block>(
     words: &Words<U, B>,
     pass: &mut Pass<U>,
     frames: &mut Batch,
@@ -210,7 +214,7 @@ fn give_one<U: Owner, B: Block>(
 }
 
 /// The page and the one behind it as fresh ones, claimed together, where the next word is still what it was.
-fn give_two<U: Owner, B: Block>(
+fn give_two<U: Ungrouped, B: Block>(
     words: &Words<U, B>,
     pass: &mut Pass<U>,
     frames: &mut Batch,
@@ -253,7 +257,7 @@ fn give_two<U: Owner, B: Block>(
 
 /// Whether `n` pages are left from the next one on, as one load of the next word shows: then that page, which the load found. It locks and
 /// claims nothing, so other passes may have claimed it by then; but where too few pages are left there will never be more.
-pub(crate) fn next_room<U: Owner, B: Block>(
+pub(crate) fn next_room<U: Ungrouped, B: Block>(
     words: &Words<U, B>,
     pass: &mut Pass<U>,
     n: u32,
@@ -279,7 +283,7 @@ pub(crate) fn next_room<U: Owner, B: Block>(
 /// Claims `n` pages (1 or 2) from the next one on for a group of the pass, each with words of zeros. A page that is not resident takes the
 /// last frame of `frames`, of which there are at least `n`, without a read of its block. On every other answer nothing is claimed, no lock
 /// is kept, and the frames are as they were. A pass that is alone and knows that each of these pages can be locked is given them.
-pub(crate) fn next_pages<U: Owner, B: Block>(
+pub(crate) fn next_pages<U: Ungrouped, B: Block>(
     words: &Words<U, B>,
     pass: &mut Pass<U>,
     frames: &mut Batch,

@@ -6,7 +6,7 @@ ghost use Rattle.vm_guard.specs.Groups.{guards_of, IsGroupReleased, MayReleaseAl
 use crate::exclusive::ExclusiveGuard;
 use std::mem;
 use vm_block::Block;
-use vm_owner::Owner;
+use vm_owner::Ungrouped;
 use vm_rule::words::{Pass, Words};
 
 /// At most four guards, in the order in which they were added.
@@ -75,7 +75,7 @@ impl Group {
 
 /// Releases pages together: at the first release the drafts of all of them are logical, and what is said becomes an entry. The others are
 /// released one by one then. Each page's draft is its next version.
-pub fn release_group<U: Owner, B: Block>(
+pub fn release_group<U: Ungrouped, B: Block>(
     words: &Words<U, B>,
     pass: &mut Pass<U>,
     guards: Group,

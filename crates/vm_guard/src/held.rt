@@ -9,12 +9,12 @@ use crate::deny::Deny;
 use crate::opt::OptGuard;
 use crate::shared::SharedGuard;
 use vm_block::Block;
-use vm_owner::Owner;
+use vm_owner::Ungrouped;
 use vm_rule::words::{Pass, Words};
 
 /// Takes a share of the page that is read, and makes what is said an entry there, which this page proves with the one that is held: that one has
 /// the words that the pass knows, this one those that were read. Then the share that was held is given up.
-pub fn say_of_two<U: Owner, B: Block>(
+pub fn say_of_two<U: Ungrouped, B: Block>(
     words: &Words<U, B>,
     pass: &mut Pass<U>,
     held: SharedGuard,

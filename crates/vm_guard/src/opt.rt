@@ -15,7 +15,7 @@ use crate::shared::{SharedGuard, room};
 use crate::standing::{Lock, standing};
 use vm_block::Block;
 use vm_event::{MAX_VERSION, StateWord, TransWord};
-use vm_owner::Owner;
+use vm_owner::Ungrouped;
 use vm_page::PageBuf;
 use vm_rule::words::{Pass, Words};
 use vm_step::{
@@ -50,7 +50,7 @@ fn unlocked(word: u64) -> u64
 }
 
 /// Takes the mark of the page away, whose word was found to be this one, where it has one. The page may have another word by now.
-fn clear_mark<U: Owner, B: Block>(words: &Words<U, B>, pass: &mut Pass<U>, pid: u32, word: u64)
+fn clear_mark<U: Ungrouped, B: Block>(words: &Words<U, B>, pass: &mut Pass<U>, pid: u32, word: u64)
     requires ready { IsReadyOn words.now B.tells pass.old }
     requires page { pid < words.now.table.shared.key.pages }
     ensures goes { GoesOn words.now B.tells pass.old pass.new }
@@ -64,7 +64,7 @@ fn clear_mark<U: Owner, B: Block>(words: &Words<U, B>, pass: &mut Pass<U>, pid: 
 impl OptGuard {
     /// Begins to read the page, and takes a mark of the clock away. A page that is Evicted is needed; one that is Locked, or that another version
     /// came to between the two looks, may be tried again.
-    pub fn start<U: Owner, B: Block>(
+    pub fn start<U: Ungrouped, B: Block>(
         words: &Words<U, B>,
         pass: &mut Pass<U>,
         pid: u32,
@@ -111,7 +111,12 @@ impl OptGuard {
     }
 
     /// Word `i` of the page, through the guard's open read. Whether it is a word of one version a validation tells.
-    pub fn word<U: Owner, B: Block>(&self, words: &Words<U, B>, pass: &mut Pass<U>, i: usize) -> u64
+    pub fn word<U: Ungrouped, B: Block>(
+        &self,
+        words: &Words<U, B>,
+        pass: &mut Pass<U>,
+        i: usize,
+    ) -> u64
         requires ready { IsReadyOn words.now B.tells pass.old }
         requires reading { IsReading self.now.pid self.now.word self.now.frame (view pass.old) }
         requires place { i < words.now.table.shared.key.size }
@@ -123,7 +128,7 @@ impl OptGuard {
     }
 
     /// The same, where the place of the frame's first word is known (`vm_step::frame_place`).
-    pub fn word_at<U: Owner, B: Block>(
+    pub fn word_at<U: Ungrouped, B: Block>(
         &self,
         words: &Words<U, B>,
         pass: &mut Pass<U>,
@@ -142,7 +147,7 @@ impl OptGuard {
     }
 
     /// All words of the page, through the guard's open read.
-    pub fn read_all<U: Owner, B: Block, const N: usize>(
+    pub fn read_all<U: Ungrouped, B: Block, const N: usize>(
         &self,
         words: &Words<U, B>,
         pass: &mut Pass<U>,
@@ -169,7 +174,7 @@ impl OptGuard {
 
     /// Validates all that was read through the guard, and makes what is said an entry of the history there. Only a guard whose read is
     /// still open may say something. `Err` where the page is Locked, or has another version than the guard.
-    pub fn validate<U: Owner, B: Block>(
+    pub fn validate<U: Ungrouped, B: Block>(
         &self,
         words: &Words<U, B>,
         pass: &mut Pass<U>,
@@ -195,7 +200,7 @@ impl OptGuard {
     }
 
     /// Validates all that was read through the guard, with nothing to say.
-    pub fn validate_silently<U: Owner, B: Block>(
+    pub fn validate_silently<U: Ungrouped, B: Block>(
         &self,
         words: &Words<U, B>,
         pass: &mut Pass<U>,
@@ -218,7 +223,7 @@ impl OptGuard {
 
     /// Locks the page exclusively at the guard's version, which proves of all that was read through the guard what a validation would.
     /// A page with a share or another lock, or with another version, may be tried again; one at the last version is worn.
-    pub fn upgrade<U: Owner, B: Block>(
+    pub fn upgrade<U: Ungrouped, B: Block>(
         self,
         words: &Words<U, B>,
         pass: &mut Pass<U>,
@@ -264,7 +269,7 @@ impl OptGuard {
     /// Takes a share of the page at the guard's version, which proves of all that was read through the guard what a validation would, and makes
     /// what is said an entry of the history there: this page, with others of which the pass has shares, has to prove it. A page with another version
     /// may be tried again; one with 252 shares is crowded.
-    pub fn share<U: Owner, B: Block>(
+    pub fn share<U: Ungrouped, B: Block>(
         self,
         words: &Words<U, B>,
         pass: &mut Pass<U>,
@@ -300,7 +305,7 @@ impl OptGuard {
     }
 
     /// Takes a share of the page in the same way, with nothing to say.
-    pub fn share_silently<U: Owner, B: Block>(
+    pub fn share_silently<U: Ungrouped, B: Block>(
         self,
         words: &Words<U, B>,
         pass: &mut Pass<U>,
@@ -335,7 +340,7 @@ impl OptGuard {
 
     /// The page's word, where it is of the guard's version and has room for a share. It is the word that a share is to expect: the guard's own may
     /// have got or lost shares of others since, which changes nothing that was read.
-    fn word_to_share<U: Owner, B: Block>(
+    fn word_to_share<U: Ungrouped, B: Block>(
         &self,
         words: &Words<U, B>,
         pass: &mut Pass<U>,

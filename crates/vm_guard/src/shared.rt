@@ -10,7 +10,7 @@ use crate::deny::Deny;
 use crate::standing::{Lock, standing};
 use vm_block::Block;
 use vm_event::StateWord;
-use vm_owner::Owner;
+use vm_owner::Ungrouped;
 use vm_rule::words::{Pass, Words};
 use vm_step::{At, Saw, Took, load, lock_shared_silently, look_silently, unlock_shared};
 
@@ -42,7 +42,7 @@ pub(crate) fn room(word: u64, pid: u32) -> Result<(), Deny>
 
 impl SharedGuard {
     /// Takes a share of the page, which has to be resident, not locked, and with fewer than 252 shares.
-    pub fn take<U: Owner, B: Block>(
+    pub fn take<U: Ungrouped, B: Block>(
         words: &Words<U, B>,
         pass: &mut Pass<U>,
         pid: u32,
@@ -72,7 +72,12 @@ impl SharedGuard {
     }
 
     /// Word `i` of the page's last version.
-    pub fn read<U: Owner, B: Block>(&self, words: &Words<U, B>, pass: &mut Pass<U>, i: usize) -> u64
+    pub fn read<U: Ungrouped, B: Block>(
+        &self,
+        words: &Words<U, B>,
+        pass: &mut Pass<U>,
+        i: usize,
+    ) -> u64
         requires ready { IsReadyOn words.now B.tells pass.old }
         requires shares { IsSharing self.now.pid self.now.frame (view pass.old) }
         requires word { i < words.now.table.shared.key.size }
@@ -85,7 +90,7 @@ impl SharedGuard {
     }
 
     /// Gives the share up.
-    pub fn drop_with<U: Owner, B: Block>(self, words: &Words<U, B>, pass: &mut Pass<U>)
+    pub fn drop_with<U: Ungrouped, B: Block>(self, words: &Words<U, B>, pass: &mut Pass<U>)
         requires ready { IsReadyOn words.now B.tells pass.old }
         requires shares { IsSharing self.pid self.frame (view pass.old) }
         requires legal { MayUnshare (view pass.old) self.pid }

@@ -7,12 +7,12 @@ ghost use Rattle.vm_guard.specs.Sure.{known_word};
 
 use crate::opt::OptGuard;
 use vm_block::Block;
-use vm_owner::Owner;
+use vm_owner::Ungrouped;
 use vm_rule::words::{Pass, Words};
 
 /// Word `i` of the page's last version, or `None` where the page could not be read so: it was Locked or Evicted, or changed
 /// meanwhile. The pass keeps its frames.
-pub fn read_word<U: Owner, B: Block>(
+pub fn read_word<U: Ungrouped, B: Block>(
     words: &Words<U, B>,
     pass: &mut Pass<U>,
     pid: u32,

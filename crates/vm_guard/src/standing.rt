@@ -6,7 +6,7 @@ ghost use Rattle.vm_step.specs.Prelude.{GoesOn, IsReadyOn, view};
 
 use vm_block::Block;
 use vm_event::{Mapping, TransWord};
-use vm_owner::Owner;
+use vm_owner::Ungrouped;
 use vm_rule::words::{Pass, Words};
 use vm_step::tload;
 
@@ -26,7 +26,7 @@ fn mapping_in(word: u64) -> Mapping
 }
 
 /// Where a resident page stands that the pass has locked.
-pub(crate) fn standing<U: Owner, B: Block>(
+pub(crate) fn standing<U: Ungrouped, B: Block>(
     words: &Words<U, B>,
     pass: &mut Pass<U>,
     p: u32,

@@ -4,7 +4,7 @@ use crate::kind::Kind;
 use vm_block::Block;
 use vm_guard::OptGuard;
 use vm_guard::rule::{Pass, Words};
-use vm_owner::Owner;
+use vm_owner::Ungrouped;
 
 /// A kind of node with a buffer of a page's words, and the calls on it.
 pub trait Pages: Kind {
@@ -30,7 +30,7 @@ pub trait Pages: Kind {
         ensures size { length (words_of page.now) ≡ Self.layout.words };
 
     /// Reads all words of the page under the guard.
-    fn read_all<U: Owner, B: Block>(
+    fn read_all<U: Ungrouped, B: Block>(
         guard: &OptGuard,
         words: &Words<U, B>,
         pass: &mut Pass<U>,

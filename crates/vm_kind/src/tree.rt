@@ -6,7 +6,7 @@ ghost use Rattle.vm_tree_laws.proofs.Plainly.{plain_claims, plain_holds, plain_m
 use crate::kind::Kind;
 use crate::word_keys::Words64;
 use std::marker::PhantomData;
-use vm_owner::Owner;
+use vm_owner::{Owner, Ungrouped};
 
 /// The tree of a kind of nodes. It has no state of its own: the pages are the store's, and what is kept of them is stated alone.
 #[derive(Drop)]
@@ -43,4 +43,13 @@ impl<K: Kind> Owner for TreeOf<K> {
     ghost numbers = { plain_moves K.plain K.layout };
 
     ghost ties = { λ start kept r p keeps there other. plain_ties K.plain K.layout K.is_layout start kept r p keeps there };
+}
+
+impl<K: Kind> Ungrouped for TreeOf<K> {
+    ghost use Rattle.std.proofs.Common.{refl};
+    ghost use Rattle.vm_owner.proofs.Grouped.{takes-none};
+
+    ghost ungrouped = { takes-none };
+
+    ghost takes_none = { refl };
 }

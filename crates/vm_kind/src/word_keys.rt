@@ -26,7 +26,7 @@ use vm_node::{
     Edit, Full, Place, covers, del, del_edit, find_at, has_fences_at, has_level_at, in_buffer,
     is_leaf, is_leaf_at, join, put_edit, range_at, split, window_at,
 };
-use vm_owner::Owner;
+use vm_owner::Ungrouped;
 use vm_page::PageBuf;
 
 /// That a page may have `N` words.
@@ -180,7 +180,7 @@ impl<S: OfSize<N>, const N: usize> Pages for WordKeys<S, N> {
         page.get(i)
     }
 
-    fn read_all<U: Owner, B: Block>(
+    fn read_all<U: Ungrouped, B: Block>(
         guard: &OptGuard,
         words: &Words<U, B>,
         pass: &mut Pass<U>,

@@ -64,6 +64,8 @@ pub trait Ungrouped: Owner {
     ghost use Rattle.std.specs.Prelude.{[], List, true, ℕ, ◌≡◌};
 
     ghost ungrouped: { (groups : List (ℕ × ℕ)) → Self.takes_groups groups ≡ true → groups ≡ [] };
+
+    ghost takes_none: { Self.takes_groups [] ≡ true };
 }
 
 /// An owner that keeps nothing and adds no entry.
@@ -97,7 +99,10 @@ impl Owner for Bare {
 }
 
 impl Ungrouped for Bare {
+    ghost use Rattle.std.proofs.Common.{refl};
     ghost use Rattle.vm_owner.specs.Grouped.{takes-none};
 
     ghost ungrouped = { takes-none };
+
+    ghost takes_none = { refl };
 }

@@ -22,44 +22,44 @@ some-frames frames some =
     omega (arith, one)
 
 -- each page's last words are its block's
-words-told : (X : Type 0) (size version next : ℕ) (free : List ℕ) (frames : ℕ) (blocks : List Stored) (p : ℕ) → p < length blocks
-    → (last_of {X = X} (begun (unborn (started_shape size true version next free frames blocks))) p).words ≡ page_at (block_words blocks) p
-words-told X size version next free frames blocks p l =
+words-told : (X : Type 0) (size version next : ℕ) (free : List ℕ) (groups : List (ℕ × ℕ)) (frames : ℕ) (blocks : List Stored) (p : ℕ) → p < length blocks
+    → (last_of {X = X} (begun (unborn (started_shape size true version next free groups frames blocks))) p).words ≡ page_at (block_words blocks) p
+words-told X size version next free groups frames blocks p l =
     let inside : p < length (block_words blocks) = omega (arith, l, length-mapped (λ (b : Stored). b.words) blocks) in
     ap (λ b. if b then at (replicate size 0) (block_words blocks) p else replicate size 0) (lt-ltb p (length blocks) l)
     ∙ at-any (replicate size 0) [] (block_words blocks) p inside
     ∙ at-get [] (block_words blocks) p
 
-module _ {X : Type 0} (size : ℕ) (tells : Bool) (version next : ℕ) (free : List ℕ) (frames : ℕ) (blocks : List Stored)
-    (v : View X) (is : v ≡ begun (unborn (started_shape size tells version next free frames blocks))) where
+module _ {X : Type 0} (size : ℕ) (tells : Bool) (version next : ℕ) (free : List ℕ) {groups : List (ℕ × ℕ)} (frames : ℕ) (blocks : List Stored)
+    (v : View X) (is : v ≡ begun (unborn (started_shape size tells version next free groups frames blocks))) where
   abbrev words : List ℕ
   words = started_words size (length blocks) frames version next free (counts_of blocks)
 
-  pub start-is : v.start ≡ started_origin size tells version next free frames blocks
+  pub start-is : v.start ≡ started_origin size tells version next free groups frames blocks
   start-is = ap (λ (x : View X). x.start) is
 
   pub first-words : tells ≡ true → (p : ℕ) → p < length blocks → (last_of v p).words ≡ page_at (block_words blocks) p
   first-words told p l =
       ap (λ (x : View X). (last_of x p).words) is
-      ∙ subst (λ (t : Bool). (last_of {X = X} (begun (unborn (started_shape size t version next free frames blocks)))
+      ∙ subst (λ (t : Bool). (last_of {X = X} (begun (unborn (started_shape size t version next free groups frames blocks)))
       p).words ≡ page_at (block_words blocks) p) (sym told)
-      (words-told X size version next free frames blocks p l)
+      (words-told X size version next free groups frames blocks p l)
 
   words-are : v.snapshot.words ≡ words
   words-are = ap (λ (x : View X). x.snapshot.words) is
 
   -- it may call on the table that began so
-  pub first-of : (shape : TableShape) → shape ≡ started_shape size tells version next free frames blocks → IsOf shape tells v
+  pub first-of : (shape : TableShape) → shape ≡ started_shape size tells version next free groups frames blocks → IsOf shape tells v
   first-of shape same =
       subst (λ (s : TableShape). IsOf s tells v) (sym same)
-      (subst (IsOf (started_shape size tells version next free frames blocks) tells) (sym is) record {
+      (subst (IsOf (started_shape size tells version next free groups frames blocks) tells) (sym is) record {
         is_shape = record { same = refl; size = refl; pages = refl; frames = refl; version = refl; next = refl };
         tells_is = refl;
       })
 
   pub first-alone : IsAlone v
   first-alone = (
-    subst IsWhole (sym is) (first-whole X (started_origin size tells version next free frames blocks)),
+    subst IsWhole (sym is) (first-whole X (started_origin size tells version next free groups frames blocks)),
     ap (λ (x : View X). x.current) is,
   )
 
@@ -69,7 +69,7 @@ module _ {X : Type 0} (size : ℕ) (tells : Bool) (version next : ℕ) (free : L
         let inside : p < length blocks = omega (arith, l, long) in
         ap (λ (t : List ℕ). slice_index t p) words-are
         ∙ sym (part-found 0 (length blocks) words p p inside (omega arith)) ∙ started-state size tells version
-        next free frames blocks p inside
+        next free groups frames blocks p inside
 
     -- each page is at the first version
     pub first-version : (p : ℕ) → p < pages → version_of (known_word_at v (places.State p)) ≡ version
@@ -92,7 +92,7 @@ module _ {X : Type 0} (size : ℕ) (tells : Bool) (version next : ℕ) (free : L
         ∙ ap (λ (t : List ℕ). slice_index t (3 * length blocks + size * frames + 0)) words-are
         ∙ sym (part-found (3 * length blocks + size * frames) (bundles_of frames) words 0
         (3 * length blocks + size * frames + 0) inside refl)
-        ∙ started-bundle size tells version next free frames blocks 0
+        ∙ started-bundle size tells version next free groups frames blocks 0
 
     pub first-free : (old : List ℕ) → HasFree old v
     first-free old =

@@ -15,7 +15,7 @@ use vm_evict::evict;
 use vm_evict::report::Report;
 use vm_exmap::{AllocOne, Interface};
 use vm_fault::{Fetch, fault_in};
-use vm_owner::Owner;
+use vm_owner::Ungrouped;
 use vm_rule::words::Pass;
 
 /// What bringing a page answers.
@@ -69,7 +69,7 @@ pub fn dry_cause(report: &Report) -> Bring
     }
 }
 
-impl<U: Owner, B: PageBlock<N>, const N: usize> Pool<U, B, N> {
+impl<U: Ungrouped, B: PageBlock<N>, const N: usize> Pool<U, B, N> {
     /// Evicts up to `want` (1 to 64) pages that the clock chooses, and gives their frames to the interface.
     pub fn sweep(&self, pass: &mut Pass<U>, iface: &mut Interface, want: u32) -> Report
         requires ready { IsReadyOn self.now.words B.tells pass.old }

@@ -12,11 +12,11 @@ use atomic_table::Closed as ClosedTable;
 use std::alloc::Global;
 use vm_block::Block;
 use vm_event::FRAMES;
-use vm_owner::Owner;
+use vm_owner::Ungrouped;
 use vm_rule::words::{Pass, Words};
 
 /// The end of a pool with these words, whose pass has all parts and holds no page. There is room for the blocks.
-pub(crate) fn closed<U: Owner, B: Block + Drop>(
+pub(crate) fn closed<U: Ungrouped, B: Block + Drop>(
     words: Words<U, B>,
     pass: Pass<U>,
     room: Vec<B>,

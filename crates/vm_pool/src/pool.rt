@@ -1,6 +1,7 @@
 //! A pool: the shared words with their blocks, from the start to the end.
 
 ghost use Rattle.std.specs.Prelude.{◌≡◌, IfErr, IfOk, length, map, true};
+ghost use Rattle.vm_event.specs.Prelude.{GroupsFit};
 ghost use Rattle.vm_rule.specs.Prelude.{AreClaimed, block_words, HoldsNoPage, IsStarted, IsWhole, MayBegin, started_shape, unborn, view_of};
 ghost use Rattle.vm_rule.specs.Begun.{begun};
 ghost use Rattle.vm_page.specs.Sizes.{IsSize};
@@ -11,7 +12,7 @@ use crate::ended::Closed;
 use std::alloc::Global;
 use vm_block::{Block, PageBlock};
 use vm_event::Memory;
-use vm_owner::Owner;
+use vm_owner::{Owner, Ungrouped};
 use vm_rule::words::{Pass, Words};
 
 /// What a pool is started with, beside its blocks: 1 to 65536 pages, as many as blocks, and 1 to 65536 frames; the least page number that is
@@ -42,25 +43,28 @@ impl<U: Owner, B: Block + Drop, const N: usize> Drop for Pool<U, B, N> {
 impl<U: Owner, B: PageBlock<N> + Drop, const N: usize> Pool<U, B, N> {
     /// A pool whose pages are all evicted, with their words in the blocks, and whose frames are all free; and its first pass, which has all
     /// parts and knows every word and block. The pages from the next one on are zero, where the blocks tell. The numbers in `free` are those of
-    /// pages below it that `ExclusiveGuard::fresh` may give anew: these pages are zero too, where the blocks tell. Where there is no memory the
-    /// blocks are dropped.
+    /// pages below it that `ExclusiveGuard::fresh` may give anew: these pages are zero too, where the blocks tell. Each of `groups`, with its first
+    /// page and its size, stands under the state word of its first page. Where there is no memory the blocks are dropped.
     pub fn start(
         alloc: Global,
         shape: Shape,
         blocks: Vec<B>,
         free: &[u32],
+        groups: &[(u32, u32)],
     ) -> Result<(Pool<U, B, N>, Pass<U>), Memory>
         requires sized { IsSize N }
         requires takes { U.takes_size N ≡ true }
+        requires fit { GroupsFit (length blocks.items) groups.now }
+        requires grouped { U.takes_groups groups.now ≡ true }
         requires pages { shape.pages ≡ length blocks.items }
         requires fits { IsStarted shape.first_version shape.next shape.frames (length blocks.items) }
         requires claimed { AreClaimed shape.next free.now }
         requires begins { B.tells ≡ true → MayBegin U.keeps shape.next free.now (block_words (map B.stored blocks.items)) }
         ensures key { IfOk result (λ made. made.0.words.table.shared.key
-            ≡ started_shape N B.tells shape.first_version shape.next free.now shape.frames (map B.stored blocks.items)) }
+            ≡ started_shape N B.tells shape.first_version shape.next free.now groups.now shape.frames (map B.stored blocks.items)) }
         ensures pass { IfOk result (λ made. made.1.badge.table_id ≡ made.0.words.table.shared.table_id) }
         ensures view { IfOk result (λ made. view_of made.1.badge.views
-            ≡ begun (unborn (started_shape N B.tells shape.first_version shape.next free.now shape.frames (map B.stored blocks.items)))) }
+            ≡ begun (unborn (started_shape N B.tells shape.first_version shape.next free.now groups.now shape.frames (map B.stored blocks.items)))) }
     {
         let (words, pass) = Words::started(
             alloc,
@@ -70,6 +74,7 @@ impl<U: Owner, B: PageBlock<N> + Drop, const N: usize> Pool<U, B, N> {
             shape.first_version,
             blocks,
             free,
+            groups,
         )?;
         Ok((Pool { words }, pass))
     }
@@ -80,7 +85,9 @@ impl<U: Owner, B: PageBlock<N> + Drop, const N: usize> Pool<U, B, N> {
     {
         &self.words
     }
+}
 
+impl<U: Ungrouped, B: PageBlock<N> + Drop, const N: usize> Pool<U, B, N> {
     /// Ends the pool with a pass that has all parts, has made a step since it was split or joined, and holds no page: the blocks come back, in
     /// the order of their pages. Where there is no memory for their list nothing has changed.
     pub fn close(

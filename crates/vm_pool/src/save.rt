@@ -12,7 +12,7 @@ use crate::pool::Pool;
 use std::alloc::Global;
 use vm_block::{Block, PageBlock};
 use vm_evict::{Flushed, flush};
-use vm_owner::Owner;
+use vm_owner::{Owner, Ungrouped};
 use vm_rule::words::Pass;
 
 /// A pool that was flushed and closed: what the flush did, and what is left of the pool.
@@ -24,7 +24,7 @@ pub struct Saved<U: Owner, B: Block> {
 /// Writes all dirty pages to their blocks and ends the pool, with a pass that is alone and holds no page. Where no write failed, and the blocks
 /// tell their words, each block has the last words of its page. Where there is no memory for the list of blocks, pool and pass come back with
 /// the pages written.
-pub fn flush_and_close<U: Owner, B: PageBlock<N> + Drop, const N: usize>(
+pub fn flush_and_close<U: Ungrouped, B: PageBlock<N> + Drop, const N: usize>(
     pool: Pool<U, B, N>,
     alloc: Global,
     mut pass: Pass<U>,

@@ -19,7 +19,7 @@ use Rattle.vm_pool_callers.proofs.Prelude.{sum_below-past, sym, true, unborn, ve
 use Rattle.vm_pool_callers.proofs.Prelude.{◌*◌, ◌+◌, ◌-◌, ◌<◌, ◌^◌, ◌∙◌, ◌∷◌, ◌≡◌, ◌≢◌, ◌≤◌}
 
 module _ {X : Type 0} (size : ℕ) (tells : Bool) (version next frames : ℕ) (blocks : List Stored) (v : View X)
-    (is : v ≡ begun (unborn (started_shape size tells version next [] frames blocks))) where
+    (is : v ≡ begun (unborn (started_shape size tells version next [] [] frames blocks))) where
   pub sure-on : (p : ℕ) (u w : View X) (answer : Bring) → u.start ≡ v.start → IsSure p u w answer
       → IsBroughtOrFailed p (bounds_of blocks) answer
   sure-on p u w answer same s =
@@ -45,7 +45,7 @@ module _ {X : Type 0} (size : ℕ) (tells : Bool) (version next frames : ℕ) (b
     -- by an interface for one frame that had none
     pub has-asked : (p cap : ℕ) (old new : List ℕ) (w : View X) (answer : Bring) → cap ≡ 1 → old ≡ [] → KeepsLocks v w
         → (IsAlone v → KnowsAsked cap p old new v w answer)
-        → HasAskedFirst p (begun (unborn (started_shape size tells version next [] frames blocks))) new w answer
+        → HasAskedFirst p (begun (unborn (started_shape size tells version next [] [] frames blocks))) new w answer
     has-asked p cap old new w answer one none keeps table =
         let knows : KnowsBring cap p [] new v w answer = subst (λ (l : List ℕ). KnowsBring cap p l new v w answer)
         none (when-free cap p old new v w answer
@@ -158,10 +158,10 @@ module _ {X : Type 0} where
       (long : length blocks ≡ pages) (fits : IsStarted version next frames pages) (below : version < MAX_VERSION)
       (two : 2 ≤ frames)
       (a b : ℕ) (ne : a ≢ b) (in-a : a < pages) (in-b : b < pages) (new : List ℕ) (w : View X) (answer : Bring)
-      (asked : HasAskedFirst a (begun (unborn (started_shape size tells version next [] frames blocks))) new w
+      (asked : HasAskedFirst a (begun (unborn (started_shape size tells version next [] [] frames blocks))) new w
       answer) where
     abbrev first : View X
-    first = begun (unborn (started_shape size tells version next [] frames blocks))
+    first = begun (unborn (started_shape size tells version next [] [] frames blocks))
 
     pub again : IsAlone w × IsKnownOut b w × HasFree new w
     again =

@@ -13,7 +13,7 @@ use std::alloc::Global;
 use vm_block::{Block, PageBlock};
 use vm_event::Memory;
 use vm_exmap::Interface;
-use vm_owner::Owner;
+use vm_owner::{Owner, Ungrouped};
 use vm_pool::{Bring, Pool, Shape};
 use vm_rule::words::Pass;
 
@@ -27,7 +27,7 @@ pub struct Opened<U: Owner, B: Block, const N: usize> {
 
 /// Starts a pool, below the last version, and brings page `pid`: it is brought, or its device failed, as the bound of its block allows. With
 /// a block whose bound is 0 it is brought. What the pass knows then is enough for its next calls.
-pub fn open_page<U: Owner, B: PageBlock<N> + Drop, const N: usize>(
+pub fn open_page<U: Ungrouped, B: PageBlock<N> + Drop, const N: usize>(
     alloc: Global,
     shape: Shape,
     blocks: Vec<B>,
@@ -42,14 +42,14 @@ pub fn open_page<U: Owner, B: PageBlock<N> + Drop, const N: usize>(
     requires begins { B.tells ≡ true → MayBegin U.keeps shape.next [] (block_words (map B.stored blocks.items)) }
     ensures answer { IfOk result (λ opened. IsBroughtOrFailed pid (bounds_of (map B.stored blocks.items)) opened.answer) }
     ensures key { IfOk result (λ opened. opened.pool.words.table.shared.key
-        ≡ started_shape N B.tells shape.first_version shape.next [] shape.frames (map B.stored blocks.items)) }
+        ≡ started_shape N B.tells shape.first_version shape.next [] [] shape.frames (map B.stored blocks.items)) }
     ensures ready { IfOk result (λ opened. IsReadyOn opened.pool.words B.tells opened.pass) }
     ensures held { IfOk result (λ opened. AreHeld opened.iface.frames (view opened.pass)) }
     ensures asked { IfOk result (λ opened. HasAskedFirst pid
-        (begun (unborn (started_shape N B.tells shape.first_version shape.next [] shape.frames (map B.stored blocks.items))))
+        (begun (unborn (started_shape N B.tells shape.first_version shape.next [] [] shape.frames (map B.stored blocks.items))))
         opened.iface.frames (view opened.pass) opened.answer) }
 {
-    let (pool, mut pass) = Pool::start(alloc, shape, blocks, &[])?;
+    let (pool, mut pass) = Pool::start(alloc, shape, blocks, &[], &[])?;
     let mut iface = Interface::new(0, 1);
     let answer = pool.bring(&mut pass, &mut iface, pid);
     Ok(Opened {

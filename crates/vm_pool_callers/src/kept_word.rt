@@ -43,7 +43,7 @@ pub fn keep_word<B: PageBlock<N> + Drop, const N: usize>(
     ensures word { IfOk result (λ end. IfSome end.word (λ x. x ≡ w)) }
     ensures sure { IfOk result (λ end. at 0 (bounds_of (map B.stored blocks.items)) pid ≡ 0 → end.word ≡ Some w) }
 {
-    let (pool, mut pass) = Pool::start(alloc, shape, blocks, &[])?;
+    let (pool, mut pass) = Pool::start(alloc, shape, blocks, &[], &[])?;
     let mut iface = Interface::new(0, 1);
     let word = round_trip(&pool, &mut pass, &mut iface, pid, i, w);
     Ok(ReadBack {

@@ -11,7 +11,7 @@ use std::alloc::Global;
 use vm_block::{Block, PageBlock};
 use vm_event::Memory;
 use vm_exmap::Interface;
-use vm_owner::Owner;
+use vm_owner::{Owner, Ungrouped};
 use vm_pool::guard::SharedGuard;
 use vm_pool::{Bring, Pool, Shape};
 use vm_rule::words::Pass;
@@ -27,7 +27,7 @@ pub struct SharedPage<U: Owner, B: Block, const N: usize> {
 
 /// Starts a pool, below the last version, brings page `pid`, takes a share of it, reads its word `i`, and gives the share up. The page is
 /// brought, or its device failed, as the bound of its block allows; where it was brought, it is shared and the word is read.
-pub fn open_shared<U: Owner, B: PageBlock<N> + Drop, const N: usize>(
+pub fn open_shared<U: Ungrouped, B: PageBlock<N> + Drop, const N: usize>(
     alloc: Global,
     shape: Shape,
     blocks: Vec<B>,

@@ -11,7 +11,7 @@ use std::alloc::Global;
 use vm_block::{Block, PageBlock};
 use vm_event::Memory;
 use vm_exmap::Interface;
-use vm_owner::Owner;
+use vm_owner::{Owner, Ungrouped};
 use vm_pool::guard::read_word;
 use vm_pool::{Bring, Pool, Shape};
 use vm_rule::words::Pass;
@@ -28,7 +28,7 @@ pub struct TwoPages<U: Owner, B: Block, const N: usize> {
 
 /// Starts a pool of two or more frames, below the last version, brings the pages `a` and `b`, and reads word `i` of `a`. Each page is
 /// brought, or its device failed, as the bound of its block allows; where `a` was brought, the word is read.
-pub fn open_two<U: Owner, B: PageBlock<N> + Drop, const N: usize>(
+pub fn open_two<U: Ungrouped, B: PageBlock<N> + Drop, const N: usize>(
     alloc: Global,
     shape: Shape,
     blocks: Vec<B>,

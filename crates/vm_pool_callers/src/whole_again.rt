@@ -8,12 +8,12 @@ ghost use Rattle.vm_step.specs.Prelude.{GoesOn, HasJoined, IsReadyOn, MayStep, v
 use std::alloc::Global;
 use vm_block::{Block, PageBlock};
 use vm_event::Memory;
-use vm_owner::Owner;
+use vm_owner::Ungrouped;
 use vm_pool::{Closed, Pool, Shape};
 use vm_rule::words::Pass;
 
 /// Takes in each of the passes, which hold no page.
-pub fn join_each<U: Owner, B: Block + Drop, const N: usize>(
+pub fn join_each<U: Ungrouped, B: Block + Drop, const N: usize>(
     pool: &Pool<U, B, N>,
     pass: &mut Pass<U>,
     others: Vec<Pass<U>>,
@@ -30,7 +30,7 @@ pub fn join_each<U: Owner, B: Block + Drop, const N: usize>(
 }
 
 /// Starts a pool, splits `n` passes off the first one, takes them in again, and closes the pool.
-pub fn split_and_join<U: Owner, B: PageBlock<N> + Drop, const N: usize>(
+pub fn split_and_join<U: Ungrouped, B: PageBlock<N> + Drop, const N: usize>(
     alloc: Global,
     shape: Shape,
     blocks: Vec<B>,
@@ -44,7 +44,7 @@ pub fn split_and_join<U: Owner, B: PageBlock<N> + Drop, const N: usize>(
     requires parts { n ≤ 4294967295 }
     ensures count { IfOk result (λ end. length end.blocks.items ≡ length blocks.items) }
 {
-    let (pool, mut pass) = Pool::start(alloc, shape, blocks, &[])?;
+    let (pool, mut pass) = Pool::start(alloc, shape, blocks, &[], &[])?;
     let given = pool.split(alloc, &mut pass, n)?;
     join_each(&pool, &mut pass, given);
     match pool.close(alloc, pass) {
@@ -54,7 +54,10 @@ pub fn split_and_join<U: Owner, B: PageBlock<N> + Drop, const N: usize>(
 }
 
 /// Splits two passes off, lets them meet, and takes both in again.
-pub fn meet_and_join<U: Owner, B: Block, const N: usize>(pool: &Pool<U, B, N>, pass: &mut Pass<U>)
+pub fn meet_and_join<U: Ungrouped, B: Block, const N: usize>(
+    pool: &Pool<U, B, N>,
+    pass: &mut Pass<U>,
+)
     requires ready { IsReadyOn pool.now.words B.tells pass.old }
     requires parts { 2 ≤ length (view pass.old).fresh }
     ensures goes { GoesOn pool.now.words B.tells pass.old pass.new }

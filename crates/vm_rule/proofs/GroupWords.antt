@@ -36,6 +36,11 @@ unfolding numbers
 apart-numbers a zero = tt
 apart-numbers a (suc n) = (hasn't-numbers (suc a) n a (inl (omega arith)), apart-numbers (suc a) n)
 
+numbers-first : (a n : ℕ) → 1 ≤ n → (rest : List ℕ) × (numbers a n ≡ a ∷ rest)
+unfolding numbers
+numbers-first a zero some = absurd (omega (arith, some))
+numbers-first a (suc n) some = (numbers (suc a) n, refl)
+
 -- ---- a group as a list
 
 pub group-apart : (gs : List (ℕ × ℕ)) (h : ℕ) → AreApart (group_of gs h)
@@ -43,6 +48,19 @@ group-apart [] h = (refl, tt)
 group-apart (g ∷ gs) h =
     ⊎_elim (λ t. subst AreApart (sym (cond-true (eqb g.0 h) (numbers g.0 g.1) (group_of gs h) t)) (apart-numbers g.0 g.1))
     (λ f. subst AreApart (sym (cond-false (eqb g.0 h) (numbers g.0 g.1) (group_of gs h) f)) (group-apart gs h))
+    (cases_Bool (eqb g.0 h))
+
+-- it begins with its first page
+pub group-first : (pages h : ℕ) (gs : List (ℕ × ℕ)) → GroupsFit pages gs
+    → (rest : List ℕ) × (group_of gs h ≡ h ∷ rest)
+group-first pages h [] fit = ([], refl)
+group-first pages h (g ∷ gs) fit =
+    ⊎_elim
+    (λ t. let some : 2 ≤ g.1 = (group-size pages g fit.0).0 in
+    let k = numbers-first g.0 g.1 (omega (arith, some)) in
+    (k.0, cond-true (eqb g.0 h) (numbers g.0 g.1) (group_of gs h) t ∙ k.1 ∙ ap (λ x. x ∷ k.0) (eqb-true g.0 h t)))
+    (λ f. let k = group-first pages h gs fit.2 in
+    (k.0, cond-false (eqb g.0 h) (numbers g.0 g.1) (group_of gs h) f ∙ k.1))
     (cases_Bool (eqb g.0 h))
 
 -- it has just the pages whose head this is

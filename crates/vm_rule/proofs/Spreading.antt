@@ -1,12 +1,13 @@
 -- What the pages of a group read: the word of its first page. A word of no group stands where it stood.
 use Rattle.std.proofs.Common.{[], ⊎_elim, ◌+◌, ◌<◌, ◌∙◌, ◌∷◌, ◌≡◌, ◌≢◌, ◌≤◌, ◌⊎◌, ap, arith, inl, inr, length, List, refl}
-use Rattle.std.proofs.Common.{subst, suc, sym, true, zero, ℕ}
+use Rattle.std.proofs.Common.{Bool, subst, suc, sym, true, zero, ℕ}
 use Rattle.std.proofs.lemmas.Bool.{cases_Bool, cases_eq, cases_lt, cond-false, cond-true}
 use Rattle.std.proofs.lemmas.List.{ext_get_or, get_or-set_other, get_or-set_same, set_past}
 use Rattle.std.specs.Prelude.{slice_index, slice_set}
 use Rattle.vm_event.specs.Groups.{in_group}
 use Rattle.vm_event.specs.Prelude.{GroupsFit, head_in, IsUngrouped}
-use Rattle.vm_event.proofs.Groups.{group-outside, head-among, head-apart, inside-group, past-ungrouped, ungrouped-only, ungrouped-own}
+use Rattle.vm_event.proofs.Groups.{group-outside, head-among, head-apart, head-le, head-past, inside-group, past-ungrouped}
+use Rattle.vm_event.proofs.Groups.{ungrouped-only, ungrouped-own}
 use Rattle.vm_rule.proofs.Prelude.{get_or_past, length-set}
 use Rattle.vm_rule.specs.{declared.view.Origin.Origin, declared.view.WordPlace.WordPlace, Layout.at_state, Layout.index_of}
 use Rattle.vm_rule.specs.declared.view.WordPlace.TheVariants.{Bundle, Content, Fault, Hand, Next, Owner, Spare, State, Translation}
@@ -116,6 +117,19 @@ placed-ungrouped start fit Hand none = past-ungrouped start.pages start.groups f
 placed-ungrouped start fit (Owner f) none = past-ungrouped start.pages start.groups fit _ (omega arith)
 placed-ungrouped start fit (Spare g) none = past-ungrouped start.pages start.groups fit _ (omega arith)
 
--- without groups no page is in one
-pub none-grouped : (gs : List (ℕ × ℕ)) → gs ≡ [] → (p : ℕ) → IsUngrouped gs p
-none-grouped gs none p = subst (λ (l : List (ℕ × ℕ)). IsUngrouped l p) (sym none) tt
+-- where all state words are one, each page reads what stands at its own place
+pub spread-alike : (pages : ℕ) (gs : List (ℕ × ℕ)) → GroupsFit pages gs → (words : List ℕ) (x : ℕ)
+    → ((p : ℕ) → p < pages → slice_index words p ≡ x) → spread gs words ≡ words
+spread-alike pages gs fit words x alike =
+    ext_get_or 0 (spread gs words) words (length-spread gs words)
+    (λ p lt. spread-reads pages gs fit words p (subst (λ n. p < n) (length-spread gs words) lt)
+    ∙ ⊎_elim
+    (λ inside. let le : head_in gs p ≤ p = head-le gs p in
+    alike (head_in gs p) (omega (arith, le, inside)) ∙ sym (alike p inside))
+    (λ past. ap (slice_index words) (head-past pages gs fit p past))
+    (cases_lt p pages))
+
+-- an owner that takes no groups has no page in one
+pub none-grouped : (takes : List (ℕ × ℕ) → Bool) → ((gs : List (ℕ × ℕ)) → takes gs ≡ true → gs ≡ []) → (list groups : List (ℕ × ℕ))
+    → takes list ≡ true → list ≡ groups → (p : ℕ) → IsUngrouped groups p
+none-grouped takes none list groups taken same p = subst (λ (l : List (ℕ × ℕ)). IsUngrouped l p) (sym (none list taken) ∙ same) tt

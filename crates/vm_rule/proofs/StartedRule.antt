@@ -8,7 +8,9 @@ use Rattle.vm_numbers.specs.Hands.{all_zero, Hands, no_hands, unit_if}
 use Rattle.vm_rule.proofs.FreeWords.{free_words-bits}
 use Rattle.vm_rule.proofs.StartedWords.{started-spare}
 use Rattle.vm_rule.proofs.{Known.known-nothing, Pages.page-in, Pages.page-out, Parted.opened, Parts.listed-same}
-use Rattle.vm_rule.proofs.{Starts.evicted-inv, Starts.start-frames}
+use Rattle.vm_event.specs.Prelude.{GroupsFit, word_of}
+use Rattle.vm_rule.proofs.{Found.part-found, Spreading.spread-alike, Starts.evicted-inv, Starts.start-frames}
+use Rattle.vm_rule.specs.Spread.{spread}
 use Rattle.vm_rule.proofs.ListFacts.{at-any, at-map, length-mapped, listed-long}
 use Rattle.vm_rule.proofs.Prelude.{[], ap, AreClaimed, AreWhole, arith, at, began_of, block_of, block_words, Bool}
 use Rattle.vm_event.proofs.Alone.{heads-alone}
@@ -54,14 +56,14 @@ only-one x zero y e = (refl, sym (some-injective x y e))
 only-one x (suc j) y e = absurd (maybe.some-ne-none y (sym e))
 
 module _ (X : Type 0) {B : Type 0} (stored : B → Stored) (size : ℕ) (tells : Bool)
-    (version next : ℕ) (free : List ℕ) (frames : ℕ) (items : List B)
+    (version next : ℕ) (free : List ℕ) (groups : List (ℕ × ℕ)) (frames : ℕ) (items : List B)
     (whole : tells ≡ true → AreWhole size (map stored items))
     (ok : IsStarted version next frames (length items)) where
   abbrev blocks : List Stored
   blocks = map stored items
 
   abbrev start : Origin
-  start = started_origin size tells version next free frames blocks
+  start = started_origin size tells version next free groups frames blocks
 
   abbrev words : List ℕ
   words = started_words size (length blocks) frames version next free (counts_of blocks)
@@ -81,11 +83,11 @@ module _ (X : Type 0) {B : Type 0} (stored : B → Stored) (size : ℕ) (tells :
   page-evicted p l =
       page-in (length blocks) (table_words start words) (block_of stored table.homes table.views) (seats_of table.views) p l
       ∙ (λ i. record {
-        state = (ap state_of (started-state size tells version next free frames blocks p l) ∙ word-state EVICTED version ok.in_range) i;
-        version = (ap version_of (started-state size tells version next free frames blocks p l) ∙ word-version EVICTED
+        state = (ap state_of (started-state size tells version next free groups frames blocks p l) ∙ word-state EVICTED version ok.in_range) i;
+        version = (ap version_of (started-state size tells version next free groups frames blocks p l) ∙ word-version EVICTED
             version ok.in_range) i;
-        trans = (ap mapping_of (started-translation size tells version next free frames blocks p l) ∙ mapping-none) i;
-        fault = started-fault size tells version next free frames blocks no_block p l i;
+        trans = (ap mapping_of (started-translation size tells version next free groups frames blocks p l) ∙ mapping-none) i;
+        fault = started-fault size tells version next free groups frames blocks no_block p l i;
         count = (first-block p l i).count;
         block = (first-block p l i).words;
         seats = λ a. lone {X = X} (λ y. seat_of y p) start refl a i;
@@ -151,7 +153,7 @@ module _ (X : Type 0) {B : Type 0} (stored : B → Stored) (size : ℕ) (tells :
       record {
         inside = s.inside;
         outside = s.outside;
-        free = ap (λ b. has_free_bit b f) (fun_ext (started-bundle size tells version next free frames blocks)) ∙ s.free;
+        free = ap (λ b. has_free_bit b f) (fun_ext (started-bundle size tells version next free groups frames blocks)) ∙ s.free;
         holds = λ a. lone {X = X} (λ y. has f y.frames) start refl a ∙ s.holds a;
         mapped = λ p. ap (λ t. stands_in t f) (empty p) ∙ s.mapped p;
       }
@@ -160,14 +162,14 @@ module _ (X : Type 0) {B : Type 0} (stored : B → Stored) (size : ℕ) (tells :
   started-inv = record {
     place = λ f. cond (ltb f frames) Free Nowhere;
     frames = frame-free;
-    words = λ f. ap length (started-frame size tells version next free frames blocks f) ∙ length-replicate {A = ℕ} size 0;
-    next = (let is : (table_words start words).next ≡ next = started-next size tells version next free frames
+    words = λ f. ap length (started-frame size tells version next free groups frames blocks f) ∙ length-replicate {A = ℕ} size 0;
+    next = (let is : (table_words start words).next ≡ next = started-next size tells version next free groups frames
         blocks in let le : next ≤ length items = ok.claimed in omega (arith, is, le, many));
     pages = λ p. subst (PageInv 1 size tells (core_shown stored start table).words
         ((core_shown stored start table).pages p) (histories_of start [] (λ q. []) p))
         (sym (fun_ext (lone {X = X} (λ y. loads_at y p) start refl))) (page-inv p);
     owners = record {
-      named = λ f p e. let none : (table_words start words).owners f ≡ 0 = started-owner size tells version next free
+      named = λ f p e. let none : (table_words start words).owners f ≡ 0 = started-owner size tells version next free groups
           frames blocks f in absurd (omega (arith, none, e));
       owned = λ p free m at. absurd (none-some m (sym (empty p) ∙ at));
     };
@@ -178,15 +180,16 @@ module _ (X : Type 0) {B : Type 0} (stored : B → Stored) (size : ℕ) (tells :
 
   module _ (keeps : Start → Kept X → Type 0) (tied : Start → ℕ → List ℕ → ℕ → List ℕ → Type 0)
       (bounded : (b : B) → (stored b).count ≤ (stored b).bound) (capped : (b : B) → (stored b).bound ≤ 2 ^ 64 - 1)
+      (fit : GroupsFit (length items) groups)
       (claimed : AreClaimed next free) (may : tells ≡ true → MayBegin keeps next free (block_words blocks)) where
     abbrev shape : TableShape
-    shape = started_shape size tells version next free frames blocks
+    shape = started_shape size tells version next free groups frames blocks
 
     abbrev c : State
     c = core_shown stored start table
 
     next-is : c.next ≡ next
-    next-is = started-next size tells version next free frames blocks
+    next-is = started-next size tells version next free groups frames blocks
 
     begins : tells ≡ true → MayBegin keeps next free start.contents
     begins t = subst (MayBegin keeps next free) (sym (ap (λ y. contents_of size y blocks) t)) (may t)
@@ -220,7 +223,7 @@ module _ (X : Type 0) {B : Type 0} (stored : B → Stored) (size : ℕ) (tells :
 
     spares-are : (p : ℕ) → has_free_bit c.spares p ≡ has p free
     spares-are p = ap (λ w. has_free_bit w p)
-        (fun_ext (started-spare size tells version next free frames blocks of-pages)) ∙ free_words-bits free p
+        (fun_ext (started-spare size tells version next free groups frames blocks of-pages)) ∙ free_words-bits free p
 
     set-there : (p : ℕ) → has_free_bit c.spares p ≡ true → has p free ≡ true
     set-there p e = sym (spares-are p) ∙ e
@@ -259,12 +262,12 @@ module _ (X : Type 0) {B : Type 0} (stored : B → Stored) (size : ℕ) (tells :
       drafts = λ p. [];
       telling = refl;
       wide = (
-        started-wide size tells version next free frames blocks,
+        started-wide size tells version next free groups frames blocks,
         length-mapped maybe.some (map Some items)
             ∙ length-mapped Some items ∙ many,
       );
       sized = (many-contents, length-mapped (λ (b : Stored). b.bound) blocks);
-      spelled = λ p l. let is = started-translation size tells version next free frames blocks p l in
+      spelled = λ p l. let is = started-translation size tells version next free groups frames blocks p l in
           is ∙ sym (ap (λ w. trans_word (mapping_of w)) is ∙ ap trans_word mapping-none);
       inv = started-inv;
       risen = omega (arith, next-is);
@@ -333,6 +336,15 @@ module _ (X : Type 0) {B : Type 0} (stored : B → Stored) (size : ℕ) (tells :
           (begins t).kept;
     }
 
+    grouped : GroupsFit (length blocks) groups
+    grouped = subst (λ n. GroupsFit n groups) many fit
+
+    -- all pages are evicted at one version: so each page of a group has the word of its first page
+    read-alike : spread groups words ≡ words
+    read-alike =
+        spread-alike (length blocks) groups grouped words (word_of EVICTED version)
+        (λ p l. sym (part-found 0 (length blocks) words p p l (omega arith)) ∙ started-state size tells version next free groups frames blocks p l)
+
     first-stands : Stands stored keeps tied shape tells (opening words (map Some items) (unborn shape))
     unfolding block_of
     first-stands =
@@ -341,8 +353,12 @@ module _ (X : Type 0) {B : Type 0} (stored : B → Stored) (size : ℕ) (tells :
         record {
           start = start;
           is_shape = record { same = refl; size = refl; pages = refl; frames = refl; version = refl; next = refl };
-          fit = tt;
-          rule = inr (refl, first-ruled, λ i. record { words = words; blocks = same i });
+          fit = grouped;
+          rule = inr (
+            refl,
+            subst (λ ws. Ruled stored keeps tied start tells (record table { words = ws })) (sym read-alike) first-ruled,
+            λ i. record { words = read-alike i; blocks = same i },
+          );
         }
 
     -- the table meets its rule when it is made with the shape, the words and the slots that were made of these
@@ -355,7 +371,7 @@ module _ (X : Type 0) {B : Type 0} (stored : B → Stored) (size : ℕ) (tells :
           frames = frames;
           version = version;
           next = next;
-          began = (started_shape size tells version next free frames (map stored xs)).began;
+          began = (started_shape size tells version next free groups frames (map stored xs)).began;
         }
         → row ≡ started_words size (length ys) frames version next free (counts_of (map stored ys)) → slots ≡ map Some items
         → Stands stored keeps tied shape' tells (opening row slots (unborn shape'))
@@ -369,11 +385,11 @@ module _ (X : Type 0) {B : Type 0} (stored : B → Stored) (size : ℕ) (tells :
           frames = frames;
           version = version;
           next = next;
-          began = (started_shape size tells version next free frames (map stored xs)).began;
-        }) ∙ ap (λ l. started_shape size tells version next free frames (map stored l)) same))
+          began = (started_shape size tells version next free groups frames (map stored xs)).began;
+        }) ∙ ap (λ l. started_shape size tells version next free groups frames (map stored l)) same))
         (sym (f ∙ ap (λ n. started_words size n frames version next free (counts_of (map stored ys)))
         (sym (length-mapped stored ys))
         ∙ ap (λ l. started_words size (length (map stored l)) frames version next free (counts_of (map stored l)))
         same'))
         (sym h)
-        (first-stands, (started-wide size tells version next free frames blocks, length-mapped Some items ∙ many))
+        (first-stands, (started-wide size tells version next free groups frames blocks, length-mapped Some items ∙ many))

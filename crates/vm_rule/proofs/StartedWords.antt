@@ -64,9 +64,9 @@ unfolding listed
 listed-zeros zero = refl
 listed-zeros (suc n) = ap (λ (l : List ℕ). 0 ∷ l) (listed-zeros n)
 
-module _ (size : ℕ) (tells : Bool) (version next : ℕ) (free : List ℕ) (frames : ℕ) (blocks : List Stored) where
+module _ (size : ℕ) (tells : Bool) (version next : ℕ) (free : List ℕ) (groups : List (ℕ × ℕ)) (frames : ℕ) (blocks : List Stored) where
   abbrev start : Origin
-  start = started_origin size tells version next free frames blocks
+  start = started_origin size tells version next free groups frames blocks
 
   abbrev words : List ℕ
   words = started_words size (length blocks) frames version next free (counts_of blocks)

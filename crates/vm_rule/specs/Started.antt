@@ -49,8 +49,8 @@ started_words size pages frames version next free counts =
     ++ (next ∷ (0 ∷ (listed frames (λ f. 0) ++ listed (bundles_of pages) (free_words free))))))))
 
 -- how the table began, with what its blocks hold
-abbrev pub started_origin : ℕ → Bool → ℕ → ℕ → List ℕ → ℕ → List Stored → Origin
-started_origin size tells version next free frames blocks =
+abbrev pub started_origin : ℕ → Bool → ℕ → ℕ → List ℕ → List (ℕ × ℕ) → ℕ → List Stored → Origin
+started_origin size tells version next free groups frames blocks =
     record {
       tells = tells;
       size = size;
@@ -59,7 +59,7 @@ started_origin size tells version next free frames blocks =
       version = version;
       next = next;
       free = free;
-      groups = [];
+      groups = groups;
       contents = contents_of size tells blocks;
       bounds = bounds_of blocks;
     }
@@ -69,8 +69,8 @@ abbrev pub started_snapshot : ℕ → ℕ → ℕ → List ℕ → ℕ → List 
 started_snapshot size version next free frames blocks =
     record { words = started_words size (length blocks) frames version next free (counts_of blocks); blocks = blocks }
 
-abbrev pub started_shape : ℕ → Bool → ℕ → ℕ → List ℕ → ℕ → List Stored → TableShape
-started_shape size tells version next free frames blocks =
+abbrev pub started_shape : ℕ → Bool → ℕ → ℕ → List ℕ → List (ℕ × ℕ) → ℕ → List Stored → TableShape
+started_shape size tells version next free groups frames blocks =
     record {
       size = size;
       pages = length blocks;
@@ -78,7 +78,7 @@ started_shape size tells version next free frames blocks =
       version = version;
       next = next;
       began = record {
-        origin = started_origin size tells version next free frames blocks;
+        origin = started_origin size tells version next free groups frames blocks;
         snapshot = started_snapshot size version next free frames blocks;
       };
     }

@@ -5,7 +5,7 @@ ghost use Rattle.vm_rule.specs.Prelude.{counts_of, listed, opening, Sound, Stand
 ghost use Rattle.vm_rule.specs.Begun.{begun};
 
 use crate::view::{TableShape, View};
-use crate::words::{Law, PageSize, Pass, Words};
+use crate::words::{Law, PageGroups, PageSize, Pass, Words};
 use atomic_table::{Play, Seat, Table};
 use std::alloc::{AllocError, Global};
 use std::marker::PhantomData;
@@ -51,13 +51,14 @@ pub(crate) fn opened<U: Owner, B: Block + Drop>(
     words: &[u64],
     slots: Vec<Option<B>>,
     shape: &TableShape,
+    groups: PageGroups<U>,
 ) -> Result<(Words<U, B>, Pass<U>), Memory>
     requires stands { Stands B.stored U.keeps U.tied shape.now B.tells (opening words.now slots.items (unborn shape.now)) }
     requires pages { (1 ≤ shape.now.pages) × (shape.now.pages ≤ 65536) }
     requires frames { shape.now.frames ≤ 65536 }
     requires size { (1 ≤ shape.now.size) × (shape.now.size ≤ 512) }
     requires takes { U.takes_size shape.now.size ≡ true }
-    requires alone { shape.now.began.origin.groups ≡ [] }
+    requires grouped { groups.list.items ≡ shape.now.began.origin.groups }
     requires wide { (length words.now ≡ width_of shape.now.size shape.now.pages shape.now.frames) × (length slots.items ≡ shape.now.pages) }
     ensures key { IfOk result (λ made. made.0.table.shared.key ≡ shape.now) }
     ensures pass { IfOk result (λ made. made.1.badge.table_id ≡ made.0.table.shared.table_id) }
@@ -73,6 +74,7 @@ pub(crate) fn opened<U: Owner, B: Block + Drop>(
             words: shape.size as usize,
             marker: PhantomData,
         },
+        groups,
         pages: shape.pages as usize,
         frames: shape.frames as usize,
     };

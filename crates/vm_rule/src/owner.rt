@@ -1,3 +1,3 @@
 //! What the crates above name of `vm_owner` through this one.
 
-pub use vm_owner::Owner;
+pub use vm_owner::{Owner, Ungrouped};

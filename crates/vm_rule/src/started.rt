@@ -1,7 +1,7 @@
 //! The maker of a table: every page is evicted, its words in its block, and every frame is free.
 
 ghost use Rattle.std.specs.Prelude.{◌*◌, ◌++◌, ◌-◌, ◌^◌, ◌≡◌, ◌≤◌, IfOk, length, map, true};
-ghost use Rattle.vm_event.specs.Prelude.{full_bundle, MAX_VERSION};
+ghost use Rattle.vm_event.specs.Prelude.{full_bundle, GroupsFit, MAX_VERSION};
 ghost use Rattle.vm_rule.specs.Prelude.{AreClaimed, block_words, bundles_of, counts_of, AreWhole, free_words, IsStarted, listed, MayBegin, started_shape, started_words, unborn};
 ghost use Rattle.vm_page.specs.Sizes.{IsSize};
 ghost use Rattle.vm_rule.specs.Prelude.{view_of};
@@ -10,7 +10,7 @@ ghost use Rattle.vm_rule.specs.{Begun.begun, declared.began.Began.Began};
 use crate::began::Began;
 use crate::opening::{opened, push_faults, push_same, slots_of};
 use crate::view::TableShape;
-use crate::words::{Pass, Words};
+use crate::words::{PageGroups, Pass, Words};
 use std::alloc::{AllocError, Global};
 use vm_block::Block;
 use vm_event::{FRAMES, Memory, StateWord, TransWord};
@@ -22,7 +22,8 @@ impl<U: Owner, B: Block + Drop> Words<U, B> {
     /// Takes 1 to 65536 pages of `size` words (64 or 512, as the owner takes them), 1 to 65536 frames, and a version of at most 2^56 - 1. Every
     /// page is evicted at that version, with its words in its block; every frame is zero and free. The pages from `next` on are zero, where the
     /// blocks tell, and not claimed yet. The numbers in `free`, of pages below `next`, are free: these pages are zero too, where the blocks tell.
-    /// The pass has made one step, a load of the first state word, and knows all words and blocks. Where there is no memory the blocks are
+    /// Each of `groups`, with its first page and its size, stands under the state word of its first page; no two share a page, and the owner takes
+    /// them. The pass has made one step, a load of the first state word, and knows all words and blocks. Where there is no memory the blocks are
     /// dropped.
     pub fn started(
         alloc: Global,
@@ -32,26 +33,31 @@ impl<U: Owner, B: Block + Drop> Words<U, B> {
         version: u64,
         blocks: Vec<B>,
         free: &[u32],
+        groups: &[(u32, u32)],
     ) -> Result<(Words<U, B>, Pass<U>), Memory>
         requires sized { IsSize size }
         requires takes { U.takes_size size ≡ true }
+        requires fit { GroupsFit (length blocks.items) groups.now }
+        requires grouped { U.takes_groups groups.now ≡ true }
         requires whole { B.tells ≡ true → AreWhole size (map B.stored blocks.items) }
         requires fits { IsStarted version next frames (length blocks.items) }
         requires claimed { AreClaimed next free.now }
         requires begins { B.tells ≡ true → MayBegin U.keeps next free.now (block_words (map B.stored blocks.items)) }
-        ensures key { IfOk result (λ made. made.0.table.shared.key ≡ started_shape size B.tells version next free.now frames (map B.stored blocks.items)) }
+        ensures key { IfOk result (λ made. made.0.table.shared.key ≡ started_shape size B.tells version next free.now groups.now frames (map B.stored blocks.items)) }
         ensures pass { IfOk result (λ made. made.1.badge.table_id ≡ made.0.table.shared.table_id) }
         ensures view { IfOk result (λ made. view_of made.1.badge.views ≡
-            begun (unborn (started_shape size B.tells version next free.now frames (map B.stored blocks.items)))) }
+            begun (unborn (started_shape size B.tells version next free.now groups.now frames (map B.stored blocks.items)))) }
     {
         let words = evicted_words(alloc, blocks.as_slice(), size, frames, next, version, free)?;
-        let shape = shape_of(blocks.as_slice(), size, frames, next, version, free);
+        let shape = shape_of(blocks.as_slice(), size, frames, next, version, free, groups);
+        let groups = PageGroups::of(alloc, groups)?;
         let slots = slots_of(alloc, blocks)?;
-        opened(alloc, words.as_slice(), slots, &shape)
+        opened(alloc, words.as_slice(), slots, &shape, groups)
     }
 }
 
-/// The shape of the table. What its proofs are told is picked by the caller's proof, which takes it from these arguments: `_free` serves that alone.
+/// The shape of the table. What its proofs are told is picked by the caller's proof, which takes it from these arguments: `_free` and `_groups`
+/// serve that alone.
 pub(crate) fn shape_of<B: Block>(
     blocks: &[B],
     size: usize,
@@ -59,6 +65,7 @@ pub(crate) fn shape_of<B: Block>(
     next: u32,
     version: u64,
     _free: &[u32],
+    _groups: &[(u32, u32)],
 ) -> TableShape
     ghost told: { Began }
     ensures { result ≡ record { size = size; pages = length blocks.now; frames = frames; version = version; next = next; began = told } }

@@ -1,12 +1,12 @@
 // The shared table, and a caller's token for it.
-ghost use Rattle.std.specs.Prelude.{[], ◌≡◌, ◌≤◌, length, true};
+ghost use Rattle.std.specs.Prelude.{[], ◌≡◌, ◌≤◌, IfOk, length, true};
 ghost use denote.Struct.Props.{props};
 ghost use Rattle.vm_rule.specs.Prelude.{Sound, view_of, width_of};
 ghost use Rattle.vm_rule.specs.Props.{AreApart-prop, AreCounted-prop, AreNext-prop, numbered-prop};
 
 use crate::view::{TableShape, View};
 use atomic_table::{Badge, Closed, Table, TableRule};
-use std::alloc::Global;
+use std::alloc::{AllocError, Global};
 use std::marker::PhantomData;
 use std::snapshot::Snapshot;
 use vm_block::Block;
@@ -33,17 +33,39 @@ pub struct PageSize<U: Owner> {
     pub ghost takes: { U.takes_size words ≡ true },
 }
 
+/// Which groups of pages a table has, each with its first page and its size: those that the owner takes. It stands by itself, as `PageSize` does.
+#[derive(Drop)]
+pub struct PageGroups<U: Owner> {
+    pub list: Vec<(u32, u32)>,
+    marker: PhantomData<U>,
+    pub ghost takes: { U.takes_groups list.items ≡ true },
+}
+
+impl<U: Owner> PageGroups<U> {
+    /// These groups.
+    pub(crate) fn of(alloc: Global, groups: &[(u32, u32)]) -> Result<PageGroups<U>, AllocError>
+        requires { U.takes_groups groups.now ≡ true }
+        ensures { IfOk result (λ made. made.list.items ≡ groups.now) }
+    {
+        Ok(PageGroups {
+            list: Vec::from_slice(alloc, groups)?,
+            marker: PhantomData,
+        })
+    }
+}
+
 /// The shared words of a table, and its slots with the blocks: all passes step on them through a `&`.
 pub struct Words<U: Owner, B: Block> {
     pub table: Table<Option<B>, View<U::Said>, TableShape, Law<U, B>, Global>,
     pub size: PageSize<U>,
+    pub groups: PageGroups<U>,
     pub pages: usize,
     pub frames: usize,
     pub ghost shape: { (pages ≡ table.shared.key.pages) × (frames ≡ table.shared.key.frames) × (pages ≤ 65536) × (frames ≤ 65536) },
     pub ghost sized: { (size.words ≡ table.shared.key.size) × (1 ≤ size.words) × (size.words ≤ 512) },
     pub ghost wide: { (table.shared.table_id.words ≡ width_of table.shared.key.size table.shared.key.pages table.shared.key.frames) ×
         (table.shared.table_id.slots ≡ table.shared.key.pages) },
-    pub ghost alone: { table.shared.key.began.origin.groups ≡ [] },
+    pub ghost grouped: { groups.list.items ≡ table.shared.key.began.origin.groups },
 }
 
 /// What a pass knew at some time, for proofs. It has no bytes.
@@ -77,9 +99,11 @@ impl<U: Owner, B: Block> Words<U, B> {
                 words: _,
                 marker: _,
             },
+            groups,
             pages: _,
             frames: _,
         } = self;
+        drop(groups);
         table.close_with(pass.into_badge().into_seat())
     }
 }
@@ -110,9 +134,11 @@ impl<U: Owner, B: Block + Drop> Drop for Words<U, B> {
                 words: _,
                 marker: _,
             },
+            groups,
             pages: _,
             frames: _,
         } = self;
+        drop(groups);
         drop(table);
     }
 }

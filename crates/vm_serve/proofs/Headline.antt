@@ -119,7 +119,7 @@ numbers-long a (suc n) = ap suc (numbers-long (suc a) n)
 -- the first pass has fresh parts enough
 pub fresh-enough : {X : Type 0} (size : ℕ) (tells : Bool) (version next : ℕ) (free : List ℕ) (frames count : ℕ)
     (blocks : List Stored) (v : View X)
-    → v ≡ begun (unborn (started_shape size tells version next free frames blocks)) → count ≤ 64
+    → v ≡ begun (unborn (started_shape size tells version next free [] frames blocks)) → count ≤ 64
     → count ≤ length v.fresh
 fresh-enough {X = X} size tells version next free frames count blocks v is few =
     let long : length v.fresh ≡ 4294967295 = ap (λ (x : View X). length x.fresh) is ∙ numbers-long 1 4294967295 in
@@ -167,13 +167,13 @@ module _ {X C R : Type 0} (s : Serving X C R) (serving : IsServing s) {U : Type 
     (version next : ℕ) (free : List ℕ) (frames : ℕ) (before after : List Stored) (lists : List (List C))
     (replies : List (List (Result R TreeFault))) (report : Flushed) (end : Ended U X) (v w : View X)
     (may : MayServeOn s.layout tells pages before next free)
-    (is : v ≡ begun (unborn (started_shape s.layout.words tells version next free frames before)))
+    (is : v ≡ begun (unborn (started_shape s.layout.words tells version next free [] frames before)))
     (driven : IsDriven s.calls tells lists replies v w) (flushed : IsFlushed report w (view_at_end end)) (last : ℕ)
     (closed : IsClosed tells (KeepsPlain s.calls.plain s.layout) (view_at_end end) after last) where
   abbrev e : View X
   e = view_at_end end
 
-  start-is : e.start ≡ started_origin s.layout.words tells version next free frames before
+  start-is : e.start ≡ started_origin s.layout.words tells version next free [] frames before
   start-is = flushed.aside.start ∙ driven.start ∙ ap (λ (x : View X). x.start) is
 
   began : tells ≡ true → e.start.contents ≡ pages

@@ -214,7 +214,7 @@ pub fn serve_on<
     ensures version { IfOk result (λ s. (view_at_end s.ended).start.version ≡ shape.first_version) }
     ensures frames { IfOk result (λ s. (view_at_end s.ended).start.frames ≡ shape.frames) }
 {
-    let (pool, mut pass) = Pool::start(alloc, shape, blocks, free)?;
+    let (pool, mut pass) = Pool::start(alloc, shape, blocks, free, &[])?;
     let driven = drive_into(rt, alloc, &pool, &mut pass, lists, gate, rooms)?;
     let DrivenInto { kept, evicted } = driven;
     match flush_and_close(pool, alloc, pass) {

@@ -12,4 +12,5 @@ pub mod Mapping
 pub mod Next
 pub mod Owner
 pub mod Release
+pub mod ReleaseOver
 pub mod Number

@@ -10,8 +10,9 @@ use vm_owner::Owner;
 use vm_rule::words::Words;
 
 /// The place of a page's state word.
-pub(crate) fn state_place<U: Owner, B: Block>(_words: &Words<U, B>, p: u32) -> usize
+pub fn state_place<U: Owner, B: Block>(_words: &Words<U, B>, p: u32) -> usize
     requires page { p < _words.now.table.shared.key.pages }
+    ensures is { result ≡ p }
     ensures place { IsPlacedAt _words.now.table.shared.key (places.State p) result }
     ensures inside { result < _words.now.table.shared.table_id.words }
 {

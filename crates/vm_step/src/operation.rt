@@ -105,7 +105,7 @@ pub fn compare_exchange<U: Owner, B: Block, A: Copy, M: StepTold<U::Said>>(
 }
 
 /// Subtracts from the word, and answers it as it was. What the step is about is for the proof alone.
-pub(crate) fn fetch_sub<U: Owner, B: Block, A: Copy, M: StepTold<U::Said>>(
+pub fn fetch_sub<U: Owner, B: Block, A: Copy, M: StepTold<U::Said>>(
     words: &Words<U, B>,
     pass: &mut Pass<U>,
     at: usize,

@@ -5,17 +5,17 @@ ghost use Rattle.vm_event.specs.Prelude.{MayShare, one_share_more, state_of, ver
 use vm_event::StateWord;
 
 /// One share, in a state word: the version stands below.
-pub(crate) const SHARE: u64 = 1 << 56;
+pub const SHARE: u64 = 1 << 56;
 
 /// The word of a page with this state, at the version of `word`.
-pub(crate) fn word_with(state: u8, word: u64) -> u64
+pub fn word_with(state: u8, word: u64) -> u64
     ensures { result ≡ word_of state (version_of word) }
 {
     StateWord::of(state, StateWord::version(word))
 }
 
 /// The word with one share more, at the version of `word`: the first share takes a mark away.
-pub(crate) fn shared_word(word: u64) -> u64
+pub fn shared_word(word: u64) -> u64
     requires { MayShare word }
     ensures { result ≡ word_of (one_share_more (state_of word)) (version_of word) }
 {

@@ -37,7 +37,7 @@ pub fn open(
         next: image.next(),
         first_version: 0,
     };
-    Ok(Pool::start(alloc, shape, blocks, &[])?)
+    Ok(Pool::start(alloc, shape, blocks, &[], &[])?)
 }
 
 /// The key of these bytes, of which 64 are read at most.

@@ -74,6 +74,7 @@ fn started(alloc: Global) -> Result<Words<Bare, MemBlock<WORDS>>, Fail> {
         7,
         blocks,
         &[1],
+        &[],
     )?;
     Ok(words)
 }

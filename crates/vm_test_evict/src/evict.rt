@@ -106,7 +106,7 @@ pub(crate) fn one_page(
 {
     let mut blocks = Vec::new(alloc);
     blocks.push(MemBlock::new(alloc, used_page(), plan)?)?;
-    let (words, mut pass) = Words::started(alloc, WORDS, 1, 1, 5, blocks, &[])?;
+    let (words, mut pass) = Words::started(alloc, WORDS, 1, 1, 5, blocks, &[], &[])?;
     bring_first(rt, &words, &mut pass);
     set_last(rt, &words, &mut pass);
     Ok((words, pass))

@@ -35,7 +35,7 @@ fn evicted_page(alloc: Global) -> Result<(Words<Bare, MemBlock<WORDS>>, Pass<Bar
 {
     let mut blocks = Vec::new(alloc);
     blocks.push(MemBlock::new(alloc, PageBuf::zero(), &[])?)?;
-    Ok(Words::started(alloc, WORDS, 1, 1, 7, blocks, &[])?)
+    Ok(Words::started(alloc, WORDS, 1, 1, 7, blocks, &[], &[])?)
 }
 
 #[test]

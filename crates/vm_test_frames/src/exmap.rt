@@ -22,7 +22,7 @@ fn free_frames(
 {
     let mut blocks = Vec::new(alloc);
     blocks.push(MemBlock::new(alloc, PageBuf::zero(), &[])?)?;
-    Ok(Words::started(alloc, WORDS, frames, 1, 0, blocks, &[])?)
+    Ok(Words::started(alloc, WORDS, frames, 1, 0, blocks, &[], &[])?)
 }
 
 #[test]

@@ -41,7 +41,7 @@ fn one_page<const N: usize>(
     page.set(i, 5);
     let mut blocks = Vec::new(alloc);
     blocks.push(MemBlock::new(alloc, page, plan)?)?;
-    Ok(Words::started(alloc, N, 2, 1, version, blocks, &[])?)
+    Ok(Words::started(alloc, N, 2, 1, version, blocks, &[], &[])?)
 }
 
 /// Takes both frames.

@@ -42,7 +42,7 @@ fn two_pages(
         next: 2,
         first_version: version,
     };
-    Ok(Pool::start(alloc, shape, blocks, &[])?)
+    Ok(Pool::start(alloc, shape, blocks, &[], &[])?)
 }
 
 /// The last word of the frame is this.
@@ -90,7 +90,13 @@ fn a_count_of_faults_stands_still_at_its_last_value(rt: HostRuntime) -> Result<(
         next: 1,
         first_version: 0,
     };
-    let (pool, mut pass) = Pool::<Bare, MemBlock<WORDS>, WORDS>::start(alloc, shape, blocks, &[])?;
+    let (pool, mut pass) = Pool::<Bare, MemBlock<WORDS>, WORDS>::start(
+        alloc,
+        shape,
+        blocks,
+        &[],
+        &[],
+    )?;
     let mut iface = Interface::new(0, 1);
     let failed = pool.bring(&mut pass, &mut iface, 0);
     assert_eq!(rt; failed, Bring::Device { pid: 0, count });

@@ -49,7 +49,7 @@ fn pool_at(
         next: 66,
         first_version: version,
     };
-    Ok(Pool::start(alloc, shape, used_pages::<WORDS>(alloc, 66)?, &[])?)
+    Ok(Pool::start(alloc, shape, used_pages::<WORDS>(alloc, 66)?, &[], &[])?)
 }
 
 /// Brings each of the first `n` pages, which are evicted.

@@ -120,7 +120,7 @@ fn numbered_pool(alloc: Global) -> Result<(Pool<Bare, MemBlock<WORDS>, WORDS>, P
         next: 72,
         first_version: 0,
     };
-    Ok(Pool::start(alloc, shape, blocks, &[2, 3, 5, 61, 63, 64, 66, 71])?)
+    Ok(Pool::start(alloc, shape, blocks, &[2, 3, 5, 61, 63, 64, 66, 71], &[])?)
 }
 
 /// The same eight numbers are free.

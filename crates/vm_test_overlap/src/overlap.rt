@@ -145,7 +145,7 @@ fn open_held<'a>(
         first_version: 0,
     };
     let blocks = held_blocks(alloc, image, signals)?;
-    Ok(Pool::start(alloc, shape, blocks, &[])?)
+    Ok(Pool::start(alloc, shape, blocks, &[], &[])?)
 }
 
 /// Worker 0 puts on the leaf of page 1, whose read is held, and worker 1 on that of page 2.

@@ -57,7 +57,7 @@ pub fn two_passes<const N: usize>(
         next,
         first_version: 7,
     };
-    let (pool, mut pass) = Pool::start(alloc, shape, blocks, free)?;
+    let (pool, mut pass) = Pool::start(alloc, shape, blocks, free, &[])?;
     let other = pool.split_one(&mut pass);
     Ok((pool, pass, other))
 }

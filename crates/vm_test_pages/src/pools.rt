@@ -40,7 +40,7 @@ pub fn pool_of<const N: usize>(
         next: pages,
         first_version: 0,
     };
-    Ok(Pool::start(alloc, shape, blocks, &[])?)
+    Ok(Pool::start(alloc, shape, blocks, &[], &[])?)
 }
 
 /// Brings page `p`, which is evicted.

@@ -60,7 +60,7 @@ fn pool_of_two(alloc: Global) -> Result<(Pool<Bare, MemBlock<WORDS>, WORDS>, Pas
     ensures parts { IfOk result (λ made. 2 ≤ length (view made.1).fresh) }
 {
     let blocks = two_blocks(alloc)?;
-    Ok(Pool::start(alloc, two_pages(), blocks, &[])?)
+    Ok(Pool::start(alloc, two_pages(), blocks, &[], &[])?)
 }
 
 #[test]

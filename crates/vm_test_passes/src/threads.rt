@@ -57,7 +57,7 @@ fn eight_pages<const N: usize>(
         next: 8,
         first_version: 0,
     };
-    Ok(Pool::start(alloc, shape, blocks, &[])?)
+    Ok(Pool::start(alloc, shape, blocks, &[], &[])?)
 }
 
 /// Word 2 of page 5 is 205, and so on, and word `last` of each page is 1.

@@ -161,7 +161,7 @@ fn a_pool_that_is_closed_at_once_gives_its_blocks_back(rt: HostRuntime) -> Resul
         next: 1,
         first_version: 7,
     };
-    let (pool, pass) = Pool::<Bare, MemBlock<WORDS>, WORDS>::start(alloc, shape, blocks, &[])?;
+    let (pool, pass) = Pool::<Bare, MemBlock<WORDS>, WORDS>::start(alloc, shape, blocks, &[], &[])?;
     let frames = pool.words().frames;
     assert_eq!(rt; frames, 3);
     let Ok(end) = pool.close(alloc, pass) else {

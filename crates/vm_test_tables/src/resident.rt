@@ -74,7 +74,7 @@ pub fn resident<B: PageBlock<N> + Drop, const N: usize>(
     ensures writing { IfOk result (λ made. (q : ℕ) → (seat_of (view made.1) q).writing ≡ false) }
 {
     let count = blocks.len() as u32;
-    let (words, mut pass) = Words::started(alloc, N, count, count, version - 1, blocks, &[])?;
+    let (words, mut pass) = Words::started(alloc, N, count, count, version - 1, blocks, &[], &[])?;
     for p in 0..count {
         bring::<B, N>(&words, &mut pass, p)?;
     }

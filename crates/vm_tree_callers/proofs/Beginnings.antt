@@ -49,6 +49,6 @@ numbers-long a (suc n) = ap suc (numbers-long (suc a) n)
 
 -- the first pass of a pool has fresh parts
 pub has-fresh : {X : Type 0} (size : ℕ) (tells : Bool) (version next frames : ℕ) (blocks : List Stored) (v : View X)
-    → v ≡ begun (unborn (started_shape size tells version next [] frames blocks)) → 0 < length v.fresh
+    → v ≡ begun (unborn (started_shape size tells version next [] [] frames blocks)) → 0 < length v.fresh
 has-fresh {X} size tells version next frames blocks v is = let long : length v.fresh ≡ 4294967295 =
     ap (λ (x : View X). length x.fresh) is ∙ numbers-long 1 4294967295 in omega arith

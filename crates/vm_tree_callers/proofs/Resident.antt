@@ -70,11 +70,11 @@ got-is L leaf key (Wide reach) p = absurd p
 
 module _ {S : Type 0} (plain : S → Said) (L : Layout) (laws : IsLayout L) (size version next frames : ℕ) (blocks : List Stored) where
   abbrev first : View S
-  first = begun (unborn (started_shape size true version next [] frames blocks))
+  first = begun (unborn (started_shape size true version next [] [] frames blocks))
 
   first-next : known_next first ≡ next
   first-next = sym (at-get 0 (started_words size (length blocks) frames version next [] (counts_of blocks))
-      (3 * length blocks + size * frames + bundles_of frames)) ∙ started-next size true version next [] frames blocks
+      (3 * length blocks + size * frames + bundles_of frames)) ∙ started-next size true version next [] [] frames blocks
 
   -- ---- once both pages were brought
 

@@ -131,7 +131,7 @@ pub fn open_sized<S: OfSize<N>, const N: usize>(
         next: image.next(),
         first_version,
     };
-    Ok(Pool::start(alloc, shape, blocks, &[])?)
+    Ok(Pool::start(alloc, shape, blocks, &[], &[])?)
 }
 
 /// `get_from_start` over the tree of these bytes, which has one node: what `bring` answers for page 0 and page 1, and what the get is answered then.

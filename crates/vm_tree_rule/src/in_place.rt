@@ -12,7 +12,7 @@ ghost use Rattle.vm_kind.proofs.from_vm_guard.Reading.{loaded-then, none-loaded}
 use vm_block::Block;
 use vm_kind::guard::OptGuard;
 use vm_node::Place;
-use vm_owner::Owner;
+use vm_owner::{Owner, Ungrouped};
 use vm_rule::words::{Pass, Words};
 
 /// A page under an optimistic guard, with the pass that reads it. Its words may change while they are loaded, which the guard's validation tells.
@@ -25,7 +25,7 @@ pub struct InPlace<'a, U: Owner, B: Block> {
     pub first: usize,
 }
 
-impl<U: Owner, B: Block> Place for InPlace<'_, U, B> {
+impl<U: Ungrouped, B: Block> Place for InPlace<'_, U, B> {
     ghost size = { λ p. p.words.now.table.shared.key.size };
 
     ghost ready = { λ p.

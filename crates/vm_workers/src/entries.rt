@@ -75,7 +75,7 @@ pub fn three_entries<B: PageBlock<N> + Drop, const N: usize>(
     requires page { p < shape.pages }
     ensures told { IfOk result (λ told. HasThree p (view told.pass)) }
 {
-    let (pool, mut pass) = Pool::start(alloc, shape, blocks, &[])?;
+    let (pool, mut pass) = Pool::start(alloc, shape, blocks, &[], &[])?;
     let mut iface = Interface::new(0, 1);
     let answer = pool.bring(&mut pass, &mut iface, p);
     if answer != Bring::Brought {

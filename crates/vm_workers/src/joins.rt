@@ -6,12 +6,12 @@ ghost use Rattle.vm_workers.specs.Works.{views_of};
 
 use crate::worker::PageWorker;
 use vm_block::Block;
-use vm_owner::Owner;
+use vm_owner::Ungrouped;
 use vm_pool_callers::pool::Pool;
 use vm_rule::words::Pass;
 
 /// Takes in the passes of the workers, which hold no page.
-pub fn join_workers<U: Owner, B: Block, const N: usize>(
+pub fn join_workers<U: Ungrouped, B: Block, const N: usize>(
     pool: &Pool<U, B, N>,
     pass: &mut Pass<U>,
     workers: Vec<PageWorker<U>>,

@@ -8,7 +8,7 @@ use crate::worker::PageWorker;
 use std::thread;
 use std::thread::Threads;
 use vm_block::Block;
-use vm_owner::Owner;
+use vm_owner::{Owner, Ungrouped};
 use vm_pool_callers::pool::Pool;
 use vm_rule::words::{Pass, Words};
 use vm_step::{look, look_silently};
@@ -41,6 +41,15 @@ impl Owner for AllowAll {
     ghost numbers = { λ _ _ _ _ _. tt };
 
     ghost ties = { λ _ _ _ _ _ _ _. tt };
+}
+
+impl Ungrouped for AllowAll {
+    ghost use Rattle.std.proofs.Common.{refl};
+    ghost use Rattle.vm_owner.proofs.Grouped.{takes-none};
+
+    ghost ungrouped = { takes-none };
+
+    ghost takes_none = { refl };
 }
 
 /// One call: the page's state word, by a look that says the page's number where it validates the look before it.

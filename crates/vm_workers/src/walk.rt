@@ -8,13 +8,13 @@ use crate::worker::PageWorker;
 use std::thread;
 use std::thread::Threads;
 use vm_block::Block;
-use vm_owner::Owner;
+use vm_owner::Ungrouped;
 use vm_pool_callers::pool::Pool;
 use vm_rule::words::{Pass, Words};
 use vm_step::look_silently;
 
 /// One call: the page's state word.
-fn call<U: Owner, B: Block>(words: &Words<U, B>, pass: &mut Pass<U>, p: u32) -> u64
+fn call<U: Ungrouped, B: Block>(words: &Words<U, B>, pass: &mut Pass<U>, p: u32) -> u64
     requires ready { IsReadyOn words.now B.tells pass.old }
     requires page { p < words.now.table.shared.key.pages }
     ensures goes { GoesOn words.now B.tells pass.old pass.new }
@@ -25,7 +25,7 @@ fn call<U: Owner, B: Block>(words: &Words<U, B>, pass: &mut Pass<U>, p: u32) -> 
 }
 
 /// The calls of a list, each with its answer.
-fn serve<U: Owner, B: Block>(
+fn serve<U: Ungrouped, B: Block>(
     words: &Words<U, B>,
     pass: &mut Pass<U>,
     calls: &[u32],
@@ -45,7 +45,7 @@ fn serve<U: Owner, B: Block>(
 }
 
 /// The calls of one worker.
-fn work<U: Owner, B: Block>(words: &Words<U, B>, worker: &mut PageWorker<U>)
+fn work<U: Ungrouped, B: Block>(words: &Words<U, B>, worker: &mut PageWorker<U>)
     requires may { MayWork words.now.table.shared.key B.tells words.now.table.shared.table_id worker.old }
     ensures done { HasDoneJob words.now.table.shared.key B.tells words.now.table.shared.table_id worker.old worker.new }
 {
@@ -58,7 +58,7 @@ fn work<U: Owner, B: Block>(words: &Words<U, B>, worker: &mut PageWorker<U>)
 }
 
 /// Each worker makes its calls, in as many threads as there are workers where those can be had.
-pub fn run_all<R: Threads + Sync, U: Owner + Send + Sync, B: Block + Send + Sync>(
+pub fn run_all<R: Threads + Sync, U: Ungrouped + Send + Sync, B: Block + Send + Sync>(
     rt: &R,
     words: &Words<U, B>,
     workers: &mut [PageWorker<U>],
@@ -77,7 +77,7 @@ pub fn run_all<R: Threads + Sync, U: Owner + Send + Sync, B: Block + Send + Sync
 /// The workers make their calls, each with its own pass, and then their passes are taken into this one.
 pub fn run_and_join<
     R: Threads + Sync,
-    U: Owner + Send + Sync,
+    U: Ungrouped + Send + Sync,
     B: Block + Send + Sync,
     const N: usize,
 >(rt: &R, pool: &Pool<U, B, N>, pass: &mut Pass<U>, mut workers: Vec<PageWorker<U>>)

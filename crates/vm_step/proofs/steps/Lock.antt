@@ -9,12 +9,12 @@ use Rattle.vm_rule.specs.Rule.{hands_of}
 use Rattle.vm_event.specs.Groups.{head_in, IsUngrouped}
 use Rattle.vm_rule.specs.Spread.{group_of}
 use Rattle.vm_step.specs.Over.{InTurn}
-use Rattle.vm_step.proofs.Over.{over-allows}
+use Rattle.vm_step.proofs.Over.{over-each}
 use Rattle.vm_rule.specs.declared.view.WordPlace.TheVariants as places
 use Rattle.vm_step.proofs.{Evidenced.taken-view, Fit.either-has, Fit.either-lives, Fit.fit, Here.last, Here.world, Standing.allows}
 use Rattle.vm_step.proofs.Exchange.{exchange-event, free-member, free-unheld, held-at, known-held, lockx-exchange, opened, owner-shows}
 use Rattle.vm_step.proofs.Exchange.{known-owner, page_held, tried, tried-validates}
-use Rattle.vm_step.proofs.Prelude.{became, get_elem?, IsFit, Option, Ruled, slice_set, some, Table}
+use Rattle.vm_step.proofs.Prelude.{became, get_elem?, Option, Ruled, slice_set, some, Table}
 use Rattle.vm_step.proofs.Prelude.{[], AllowsStep, ap, arith, Bool, Brings, Did, did_exchange, draft_of, each-map}
 use Rattle.vm_step.proofs.Prelude.{either, eqb, Held, held_at, if◌then◌else◌, IsHeldAt, IsPlacedAt, Kept, last_of}
 use Rattle.vm_step.proofs.Prelude.{LeavesRest, length, List, LOCKED, locked, locked_view, LockExclusiveIsItsEvent}
@@ -114,22 +114,18 @@ module _ {X B : Type 0} (stored : B → Stored) (keeps : Start → Kept X → Ty
         (subst (λ n. p < n) (sym has.pages) l) may)
 
     -- and on the word of a group: each of its pages is locked in turn
-    pub lock_exclusive-over : (shape : TableShape) (slots : ℕ) (id : ℕ) (v : View X) (h expects : ℕ) → IsFit v → h < shape.pages
-        → MayLock expects → head_in shape.began.origin.groups h ≡ h
+    pub lock_exclusive-over : (shape : TableShape) (slots id : ℕ) (v : View X) (h expects : ℕ) → v.live ≡ true
+        → 0 < length v.used → h < shape.pages → MayLock expects → head_in shape.began.origin.groups h ≡ h
         → AllowsStep (Stands stored keeps tied shape tells) slots id v h
         (λ n. either (eqb n expects) (word_of LOCKED (version_of expects)) n)
         (told_of shape tells (InTurn (λ q. LockTold tied q expects) (group_of shape.began.origin.groups h)))
-    lock_exclusive-over shape slots id v h expects ready l may own =
-        over-allows stored keeps tied shape tells slots id v h
-        (λ n. either (eqb n expects) (word_of LOCKED (version_of expects)) n) (λ q. LockTold tied q expects) (λ _. IsFit) ready.live l own ready
-        (λ w k. k)
-        (λ start has q rest low under s u r there k.
-        let m = lock_exclusive-plays start s r id u there k.live k.number q expects low may in (
-          m.0,
-          m.1,
-          m.2,
-          fit m.2.brings (either-lives _ _ u k.live k.live) (either-has _ _ u k.number k.number),
-        ))
+    lock_exclusive-over shape slots id v h expects live number l may own =
+        over-each stored keeps tied shape tells slots id v h
+        (λ n. either (eqb n expects) (word_of LOCKED (version_of expects)) n) (λ q. LockTold tied q expects)
+        (λ _ _. Unit {0}) live number l own (λ _ _. tt)
+        (λ q n u w live has t. fit t.brings (either-lives _ _ u live live) (either-has _ _ u has has))
+        (λ _ _ _ _ _ _ _ m. m)
+        (λ start _ q low s u r there live has _ _. lock_exclusive-plays start s r id u there live has q expects low may)
 
   pub lock_exclusive-event : LockExclusiveIsItsEvent stored keeps tied tells
   lock_exclusive-event start s id p expects found v w pass at may told =

@@ -3,12 +3,19 @@
 -- knows; that the table allows it, and that it is its event.
 --
 -- What a look leaves: it speaks of the open read of one page, and says at most one entry. Under a lock of the page nothing changes.
-use Rattle.std.proofs.Common.{eq-eqb, ne_eqb}
+use Rattle.std.proofs.Common.{eq-eqb, map, ne_eqb}
+use Rattle.std.proofs.lemmas.Bool.{false≢true}
 use Rattle.vm_event.specs.declared.event.ReadIs.TheVariants as read
 use Rattle.vm_event.specs.declared.event.PageAct.TheVariants as acts
 use Rattle.vm_event.specs.declared.event.Seen.TheVariants as sights
-use Rattle.vm_event.proofs.{Alone.act-alone, Alone.acted-alone, Upd.upd_over-keeps}
-use Rattle.vm_event.specs.Groups.{IsUngrouped}
+use Rattle.vm_event.proofs.{Alone.act-alone, Alone.acted-alone, Groups.head-below, Upd.upd_over-keeps}
+use Rattle.vm_event.specs.Groups.{GroupsFit, head_in, IsUngrouped}
+use Rattle.vm_owner.specs.Kept.{PagesHave}
+use Rattle.vm_rule.proofs.GroupWords.{group-first, group-has, group-hasn't}
+use Rattle.vm_rule.specs.Spread.{group_of}
+use Rattle.vm_step.specs.Over.{InTurn}
+use Rattle.vm_step.proofs.Over.{has-head, has-tail, over-allows, over-each}
+use Rattle.vm_step.specs.steps.Look.{AreReadTogether, MayTellTogether, said_at}
 use Rattle.vm_rule.specs.declared.view.WordPlace.TheVariants as places
 use Rattle.vm_step.proofs.{Asides.alone-silent, Asides.OnlyReads, Fit.fit, Keeping.kept-now, Keeping.shared-free}
 use Rattle.vm_step.proofs.{Quiet.event-shows, Standing.allows, Unclaimed.logical-zero, Written.word-loaded}
@@ -21,7 +28,7 @@ use Rattle.vm_step.proofs.Prelude.{Closed, cond-false, cond-true, core_shown, Di
 use Rattle.vm_step.proofs.Prelude.{each-both, each-map, each-upd2, entries_of, entries_under, Entry, entry_of, eqb}
 use Rattle.vm_step.proofs.Prelude.{eqb-true, EVICTED, false, frame_of, fun_ext, get_elem?, has, has-first}
 use Rattle.vm_step.proofs.Prelude.{histories_of, HoldsPage, if◌then◌else◌, index_of, inl, inr, is_owed, is_pending}
-use Rattle.vm_step.proofs.Prelude.{is_readable, IsKeptNow, IsLocking, IsPlacedAt, IsTurn, Kept, kept_loads, kept_of}
+use Rattle.vm_step.proofs.Prelude.{is_readable, IsFit, IsKeptNow, IsLocking, IsPlacedAt, IsTurn, Kept, kept_loads, kept_of}
 use Rattle.vm_step.proofs.Prelude.{KnowsAsBefore, KnowsLists, KnowsPage, KnowsPages, KnowsUnheld, last_in, LeavesRest}
 use Rattle.vm_step.proofs.Prelude.{left_at, left_of, left_open, length, List, loads_at, LOCKED, LocksNone, logical}
 use Rattle.vm_step.proofs.Prelude.{Look, look-step, looked, looked_view, LookIsItsEvent, LookTells, LookTold, Mapping}
@@ -148,6 +155,26 @@ module _ {X B : Type 0} (stored : B → Stored) (keeps : Start → Kept X → Ty
   abbrev pub look-after : View X
   look-after = after_step stored keeps tied start tells s r s.words [] look-entries look-did look-inner
 
+  abbrev kept : Kept X
+  kept = kept_of old r.history s.views
+
+  -- the layer above keeps its relation with what is said, where the open read stays
+  abbrev KeepsSaid : Type 0
+  KeepsSaid = start.tells ≡ true → keeps (began_of start) kept → keeps (began_of start) (told look-entries kept)
+
+  keeps-none : keeps (began_of start) kept → keeps (began_of start) (told [] kept)
+  keeps-none = subst (λ h. keeps (began_of start) (record kept { history = h })) (sym (append-none r.history))
+
+  -- so it does where nothing is said, or it does once the open read has stayed
+  keeps-where : (said ≡ None) ⊎ (start.tells ≡ true → look-left ≡ Same → keeps (began_of start) kept
+      → keeps (began_of start) (told (entries_of v said) kept)) → KeepsSaid
+  keeps-where may t is =
+      where-same-keeps (λ es. keeps (began_of start) (told es kept)) look-left (entries_of v said) (keeps-none is)
+      (λ same. ⊎_elim
+      (λ none. subst (λ x. keeps (began_of start) (told (entries_of v x) kept)) (sym none) (keeps-none is))
+      (λ says. says t same is)
+      may)
+
   module _ (there : get_elem? s.views id ≡ some v) (live : v.live ≡ true) (l : p < start.pages) where
     pub pending-looked : is_pending (slice_set s.views id look-after) ≡ is_pending s.views
     pending-looked = fun_ext (λ q. any-same (λ y. has q y.pending) s.views id v look-after there refl)
@@ -269,19 +296,16 @@ module _ {X B : Type 0} (stored : B → Stored) (keeps : Start → Kept X → Ty
           → q < length kept.pages → IsTurn kept.history entries → may_read start q (page_at kept.pages q) entries
           → keeps start (told entries kept))
           (may : MayTell tied may_read p said v) (number : 0 < length v.used) where
-        abbrev kept : Kept X
-        kept = kept_of old r.history s.views
-
         -- the page's words prove what is said, if anything is said
-        proved-here : look-left ≡ Same → start.tells ≡ true → may_read (began_of start) p (page_at kept.pages p)
-            (entries_of v said) ⊎ (said ≡ None)
-        proved-here same t =
+        proved-here : (said ≡ None) ⊎ (start.tells ≡ true → look-left ≡ Same
+            → may_read (began_of start) p (page_at kept.pages p) (entries_of v said))
+        proved-here =
+            ⊎_elim (λ none. inl none)
+            (λ proves. inr (λ t same.
             let same_start = (r.heard id v there live).same_start in
             let k = stays (slice_index s.words p) (seat_of v p).reading same in
             let free = free-here stored start s p l (seat_of v p).reading same in
-            ⊎_elim (λ none. inr none)
-            (λ proves. inl
-            (subst (λ words. may_read (began_of start) p words (entries_of v said))
+            subst (λ words. may_read (began_of start) p words (entries_of v said))
             (sym (page-kept stored keeps tied start tells s r p l
             (not-pending stored keeps tied start tells s r p l free)))
             (subst (λ (o : Origin). may_read (began_of o) p (old.histories p).last.words (entries_of v said)) same_start
@@ -293,20 +317,89 @@ module _ {X B : Type 0} (stored : B → Stored) (keeps : Start → Kept X → Ty
             (ties-hold stored keeps tied start tells s r id v there live p l t free))))))
             may
 
-        keeps-none : keeps (began_of start) kept → keeps (began_of start) (told [] kept)
-        keeps-none = subst (λ h. keeps (began_of start) (record kept { history = h })) (sym (append-none r.history))
-
-        -- the layer above keeps its relation with what is said, where the open read stays
-        pub keeps-said : start.tells ≡ true → keeps (began_of start) kept → keeps (began_of start) (told look-entries kept)
-        keeps-said t is =
-            where-same-keeps (λ es. keeps (began_of start) (told es kept)) look-left (entries_of v said) (keeps-none is)
-            (λ same. ⊎_elim
-            (reads (began_of start) kept p (entries_of v said) is
+        -- the layer above keeps its relation with what the page's words prove
+        pub keeps-said : KeepsSaid
+        keeps-said =
+            keeps-where
+            (⊎_elim (λ none. inl none)
+            (λ proved. inr (λ t same is. reads (began_of start) kept p (entries_of v said) is
             (subst (λ n. p < n) (sym (pages-kept stored keeps tied start tells s r)) l)
-            (is-turn start r.releases r.history v said (r.heard id v there live) number))
-            (λ none. subst (λ x. keeps (began_of start) (told (entries_of v x) kept)) (sym none) (keeps-none is))
-            (proved-here same t))
+            (is-turn start r.releases r.history v said (r.heard id v there live) number) (proved t same)))
+            proved-here)
 
+      module _ (may_hold : Start → List (ℕ × List ℕ) → List (Entry X) → Type 0)
+          (holds : (start : Start) (kept : Kept X) (pages : List (ℕ × List ℕ)) (entries : List (Entry X))
+          → keeps start kept → PagesHave kept.pages pages → IsTurn kept.history entries → may_hold start pages entries
+          → keeps start (told entries kept))
+          (qs : List ℕ) (inside : (q : ℕ) → has q qs ≡ true → q < start.pages)
+          (one_word : (q : ℕ) → has q qs ≡ true → slice_index s.words q ≡ slice_index s.words p)
+          (may : MayTellTogether tied may_hold qs p said v) (number : 0 < length v.used) where
+        -- the pages' words, as the layer above has them
+        words-kept : (js : List ℕ)
+            → ((q : ℕ) → has q js ≡ true → (q < start.pages) × ((old.core.pages q).state ≢ LOCKED))
+            → PagesHave kept.pages (map (λ q. (q, (old.histories q).last.words)) js)
+        words-kept [] free = tt
+        words-kept (q ∷ js) free =
+            let k = free q (has-head q js) in (
+              subst (λ n. q < n) (sym (pages-kept stored keeps tied start tells s r)) k.0,
+              page-kept stored keeps tied start tells s r q k.0 (not-pending stored keeps tied start tells s r q k.0 k.1),
+              words-kept js (λ j is. free j (has-tail q js j is)),
+            )
+
+        module _ (t : start.tells ≡ true) (same : look-left ≡ Same) where
+          -- none of them is locked, as page p is not
+          all-free : (q : ℕ) → has q qs ≡ true → (old.core.pages q).state ≢ LOCKED
+          all-free q is e =
+              (readable (state_of (slice_index s.words p)) (stays (slice_index s.words p) (seat_of v p).reading same).3).0
+              (sym (ap state_of (one_word q is)) ∙ sym (state-here stored start s q (inside q is)) ∙ e)
+
+          all-stay : (q : ℕ) → has q qs ≡ true → is_pending s.views q ≡ false
+          all-stay q is = not-pending stored keeps tied start tells s r q (inside q is) (all-free q is)
+
+          -- each has the version that page p has
+          one-version : (q : ℕ) → has q qs ≡ true → version_of (slice_index s.words p) ≡ (old.core.pages q).version
+          one-version q is = sym (ap version_of (one_word q is)) ∙ sym (version-here stored start s q (inside q is))
+
+          -- so their last words are those that the pass loaded
+          all-read : (o : Open) → o.version ≡ version_of (slice_index s.words p)
+              → ((q : ℕ) → has q qs ≡ true → (x : Open) × ((seat_of v q).reading ≡ Some x) × (x.version ≡ o.version))
+              → AreReadTogether tied qs o.version (λ q. (old.histories q).last.words) v
+          all-read o at opens =
+              let same_start = (r.heard id v there live).same_start in
+              record {
+                size = λ q is. (r.inv.pages q).sizes.last ∙ sym (ap (λ (o : Origin). o.size) same_start);
+                loaded = λ q is.
+                    let x = opens q is in
+                    read-valid stored keeps tied start tells s r id v there live q (inside q is) t (all-free q is) x.0 x.1
+                    (x.2 ∙ at ∙ one-version q is);
+                ties = λ q j is has_j.
+                    subst (λ (o : Origin). tied (began_of o) q (old.histories q).last.words j (old.histories j).last.words)
+                    (sym same_start)
+                    (tied-now stored keeps tied start tells s r ties t q j (inside q is) (inside j has_j) (all-stay q is)
+                    (all-stay j has_j));
+                holds = λ q is.
+                    each-map _ _ (λ d h e n. h e (n ∙ at ∙ one-version q is)) v.ties
+                    (ties-hold stored keeps tied start tells s r id v there live q (inside q is) t (all-free q is));
+              }
+
+        -- the layer above keeps its relation with what the words of the pages prove together
+        pub keeps-together : KeepsSaid
+        keeps-together =
+            keeps-where
+            (⊎_elim (λ none. inl none)
+            (λ proves. inr (λ t same is.
+            let same_start = (r.heard id v there live).same_start in
+            let k = stays (slice_index s.words p) (seat_of v p).reading same in
+            let m = proves (ap (λ (o : Origin). o.tells) same_start ∙ t) k.0 k.1 in
+            holds (began_of start) kept (map (λ q. (q, (old.histories q).last.words)) qs) (entries_of v said) is
+            (words-kept qs (λ q has_q. (inside q has_q, all-free t same q has_q)))
+            (is-turn start r.releases r.history v said (r.heard id v there live) number)
+            (subst (λ (o : Origin).
+            may_hold (began_of o) (map (λ q. (q, (old.histories q).last.words)) qs) (entries_of v said)) same_start
+            (m.1 (λ q. (old.histories q).last.words) (all-read t same k.0 k.2 m.0)))))
+            may)
+
+      module _ (keeps_said : KeepsSaid) where
         pub look-shows : Shows stored keeps tied start tells s r id v s.words r.drafts [] look-entries look-did look-inner (Look id p)
         look-shows =
             let k : KnowsPages tied start old (is_pending s.views) v = r.known id v there live in
@@ -352,7 +445,7 @@ module _ {X B : Type 0} (stored : B → Stored) (keeps : Start → Kept X → Ty
                 owed = chosen start.pages (sym owed-looked i);
                 history = r.history ++ look-entries;
               })
-                  (keeps-said t was);
+                  (keeps_said t was);
             })
 
         pub look-kept : Ruled stored keeps tied start tells
@@ -383,6 +476,119 @@ module _ {X B : Type 0} (stored : B → Stored) (keeps : Start → Kept X → Ty
             ruled id look-after (set_here s.views id look-after (at-bound s.views id v there)))
 
 module _ {X B : Type 0} (stored : B → Stored) (keeps : Start → Kept X → Type 0)
+    (tied : Start → ℕ → List ℕ → ℕ → List ℕ → Type 0) (tells : Bool)
+    (ties : (start : Start) (kept : Kept X) (q p : ℕ) → keeps start kept → q < length kept.pages
+    → p < length kept.pages → tied start q (page_at kept.pages q) p (page_at kept.pages p)) where
+  -- it keeps the rule and tells what it is to tell, where the layer above keeps its relation with what is said
+  plays-where : (start : Origin) (s : Table (Option B) (View X)) (r : Ruled stored keeps tied start tells s) (id : ℕ)
+      (v : View X) → get_elem? s.views id ≡ some v → v.live ≡ true → 0 < length v.used → (p : ℕ) (said : Option X)
+      → p < start.pages → KeepsSaid stored keeps tied start tells s r id v p said
+      → (w : View X) × Ruled stored keeps tied start tells
+      (became stored keeps tied start tells s (slice_set s.words p (slice_index s.words p)) id w)
+      × LookTells keeps tied tells p said (slice_index s.words p) v w
+  plays-where start s r id v there live number p said low kept =
+      let w : View X = look-after stored keeps tied start tells s r id v p said in
+      let k : Ruled stored keeps tied start tells (became stored keeps tied start tells s s.words id w)
+      × Brings (look-did stored keeps tied start tells s r id v p said) []
+      (look-entries stored keeps tied start tells s r id v p said) v
+      (look-inner stored keeps tied start tells s r id v p said) w =
+      steps stored keeps tied start tells s r id v s.words r.drafts [] _ _ _ (Look id p) there live number refl refl
+      (look-shows stored keeps tied start tells s r id v p said there live low ties kept) in (
+        w,
+        subst (λ words. Ruled stored keeps tied start tells (became stored keeps tied start tells s words id w))
+            (sym (same-word s.words p)) k.0,
+        (
+          look-told stored keeps tied start tells s r id v p said there live low ties k.1,
+          look-kept stored keeps tied start tells s r id v p said there live low ties kept k.0,
+          look-unheld stored keeps tied start tells s r id v p said there live low,
+        ),
+      )
+
+  module _ (may_hold : Start → List (ℕ × List ℕ) → List (Entry X) → Type 0)
+      (holds : (start : Start) (kept : Kept X) (pages : List (ℕ × List ℕ)) (entries : List (Entry X))
+      → keeps start kept → PagesHave kept.pages pages → IsTurn kept.history entries → may_hold start pages entries
+      → keeps start (told entries kept)) where
+    -- so it does where the words of some pages, which have the same state word as this one, prove together what is said
+    pub look_together-plays : (start : Origin) (s : Table (Option B) (View X)) (r : Ruled stored keeps tied start tells s)
+        (id : ℕ) (v : View X) → get_elem? s.views id ≡ some v → v.live ≡ true → 0 < length v.used → (p : ℕ)
+        (said : Option X) → p < start.pages → (qs : List ℕ) → ((q : ℕ) → has q qs ≡ true → q < start.pages)
+        → ((q : ℕ) → has q qs ≡ true → slice_index s.words q ≡ slice_index s.words p)
+        → MayTellTogether tied may_hold qs p said v
+        → (w : View X) × Ruled stored keeps tied start tells
+        (became stored keeps tied start tells s (slice_set s.words p (slice_index s.words p)) id w)
+        × LookTells keeps tied tells p said (slice_index s.words p) v w
+    look_together-plays start s r id v there live number p said low qs inside one_word may =
+        plays-where start s r id v there live number p said low
+        (keeps-together stored keeps tied start tells s r id v p said there live low ties may_hold holds qs inside one_word
+        may number)
+
+    module _ (shape : TableShape) (h : ℕ) (said : Option X) where
+      -- the pass may step on over these pages; where the group's first page is among them, it is the next, and they prove
+      -- what is said there
+      record MaySay (qs : List ℕ) (u : View X) : Type 0 where
+        live : u.live ≡ true
+        number : 0 < length u.used
+        ends : qs ≡ [] → IsFit u
+        inside : (q : ℕ) → has q qs ≡ true → q < shape.pages
+        first : has h qs ≡ true → (rest : List ℕ) × (qs ≡ h ∷ rest) × MayTellTogether tied may_hold qs h said u
+
+      -- so it is on the word of a group, each of whose pages is looked at in turn, and whose first page says it
+      pub look-over : (slots id : ℕ) (v : View X) → v.live ≡ true → 0 < length v.used → h < shape.pages
+          → head_in shape.began.origin.groups h ≡ h
+          → MayTellTogether tied may_hold (group_of shape.began.origin.groups h) h said v
+          → AllowsStep (Stands stored keeps tied shape tells) slots id v h (λ n. n)
+          (told_of shape tells
+          (InTurn (λ q. LookTells keeps tied tells q (said_at h said q)) (group_of shape.began.origin.groups h)))
+      look-over slots id v live number l own may =
+          let groups : List (ℕ × ℕ) = shape.began.origin.groups in
+          over-allows stored keeps tied shape tells slots id v h (λ n. n)
+          (λ q. LookTells keeps tied tells q (said_at h said q)) MaySay live
+          l own
+          (λ fits.
+          let k : (rest : List ℕ) × (group_of groups h ≡ h ∷ rest) = group-first shape.pages h groups fits in
+          record {
+            live = live;
+            number = number;
+            ends = λ none. absurd (false≢true (ap (has h) (sym none) ∙ group-has shape.pages h groups fits own h own));
+            inside = λ q is. within fits own l q is;
+            first = λ _. (k.0, k.1, may);
+          })
+          (λ w k. k.ends refl)
+          (λ start shaped q rest low under s u r there none below same k.
+          let proved : MayTellTogether tied may_hold (q ∷ rest) q (said_at h said q) u =
+          ⊎_elim
+          (λ e. subst (λ x. MayTellTogether tied may_hold (q ∷ rest) q x u)
+          (sym (cond-true (eqb q h) said None (eq-eqb q h e)))
+          (subst (λ j. MayTellTogether tied may_hold (q ∷ rest) j said u) (sym e)
+          (k.first (subst (λ j. has j (q ∷ rest) ≡ true) e (has-head q rest))).2))
+          (λ ne. inl (cond-false (eqb q h) said None (ne_eqb q h ne)))
+          (cases_eq q h) in
+          let m = look_together-plays start s r id u there k.live k.number q (said_at h said q) low (q ∷ rest)
+          (λ j is. subst (λ n. j < n) (sym shaped.pages) (k.inside j is)) same proved in
+          let fits : IsFit m.0 = fit m.2.0.brings k.live k.number in (
+            m.0,
+            m.1,
+            m.2,
+            record {
+              live = fits.live;
+              number = fits.number;
+              ends = λ _. fits;
+              inside = λ j is. k.inside j (has-tail q rest j is);
+              first = λ is. absurd (false≢true (sym none ∙ subst (λ j. has j rest ≡ true)
+                  (ap (λ js. slice_index js 0) (sym (k.first (has-tail q rest h is)).1)) is));
+            },
+          ))
+        where
+          within : GroupsFit shape.pages shape.began.origin.groups → head_in shape.began.origin.groups h ≡ h
+              → h < shape.pages → (q : ℕ) → has q (group_of shape.began.origin.groups h) ≡ true → q < shape.pages
+          within fits own l q is =
+              head-below shape.pages shape.began.origin.groups fits q
+              (subst (λ k. k < shape.pages)
+              (⊎_elim (λ e. sym e)
+              (λ ne. absurd (false≢true (sym (group-hasn't shape.pages h shape.began.origin.groups fits own q ne) ∙ is)))
+              (cases_eq (head_in shape.began.origin.groups q) h)) l)
+
+module _ {X B : Type 0} (stored : B → Stored) (keeps : Start → Kept X → Type 0)
     (tied : Start → ℕ → List ℕ → ℕ → List ℕ → Type 0) (tells : Bool) (may_read : Start → ℕ → List ℕ → List (Entry X)
     → Type 0)
     (reads : (start : Start) (kept : Kept X) (q : ℕ) (entries : List (Entry X)) → keeps start kept
@@ -390,32 +596,39 @@ module _ {X B : Type 0} (stored : B → Stored) (keeps : Start → Kept X → Ty
     → keeps start (told entries kept))
     (ties : (start : Start) (kept : Kept X) (q p : ℕ) → keeps start kept → q < length kept.pages
     → p < length kept.pages → tied start q (page_at kept.pages q) p (page_at kept.pages p)) where
+  -- it keeps the rule and tells what it is to tell
+  pub look-plays : (start : Origin) (s : Table (Option B) (View X)) (r : Ruled stored keeps tied start tells s) (id : ℕ)
+      (v : View X) → get_elem? s.views id ≡ some v → v.live ≡ true → 0 < length v.used → (p : ℕ) (said : Option X)
+      → p < start.pages → MayTell tied may_read p said v
+      → (w : View X) × Ruled stored keeps tied start tells
+      (became stored keeps tied start tells s (slice_set s.words p (slice_index s.words p)) id w)
+      × LookTells keeps tied tells p said (slice_index s.words p) v w
+  look-plays start s r id v there live number p said low may =
+      plays-where stored keeps tied tells ties start s r id v there live number p said low
+      (keeps-said stored keeps tied start tells s r id v p said there live low ties may_read reads may number)
+
+  -- so it is on every table
   pub look-allows : (shape : TableShape) (slots id : ℕ) (v : View X) (i : ℕ) (p : ℕ) (said : Option X) → v.live ≡ true
       → 0 < length v.used → p < shape.pages → MayTell tied may_read p said v → IsPlacedAt shape (places.State p) i → IsUngrouped shape.began.origin.groups p
       → AllowsStep (Stands stored keeps tied shape tells) slots id v i (λ n. n) (told_of shape tells (LookTells keeps tied tells p said))
   look-allows shape slots id v i p said live number l may is none =
       allows stored keeps tied shape tells slots id v i (places.State p) (λ n. n) (λ n. n)
-      (LookTells keeps tied tells p said) live is (λ start has. subst (λ (o : Origin). IsUngrouped o.groups p) (sym has.same) none) (λ n. refl) (λ n w t. fit t.0.brings live number)
+      (LookTells keeps tied tells p said) live is
+      (λ start has. subst (λ (o : Origin). IsUngrouped o.groups p) (sym has.same) none) (λ n. refl)
+      (λ n w t. fit t.0.brings live number)
       (λ start has s r there _.
-      let low : p < start.pages = subst (λ n. p < n) (sym has.pages) l in
-      let w : View X = look-after stored keeps tied start tells s r id v p said in
-      let k : Ruled stored keeps tied start tells (became stored keeps tied start tells s s.words id w)
-      × Brings (look-did stored keeps tied start tells s r id v p said) []
-      (look-entries stored keeps tied start tells s r id v p said) v
-      (look-inner stored keeps tied start tells s r id v p said) w =
-      steps stored keeps tied start tells s r id v s.words r.drafts [] _ _ _ (Look id p) there live number refl refl
-      (look-shows stored keeps tied start tells s r id v p said there live low ties may_read reads may number) in (
-        w,
-        subst (λ words. Ruled stored keeps tied start tells (became stored keeps tied start tells s words id w))
-            (sym (same-word s.words p)) k.0,
-        (
-          look-told stored keeps tied start tells s r id v p said there live low ties k.1,
-          look-kept stored keeps tied
-              start tells s r id v p said there live low ties may_read reads may number k.0,
-          look-unheld stored keeps
-              tied start tells s r id v p said there live low,
-        ),
-      ))
+      look-plays start s r id v there live number p said (subst (λ n. p < n) (sym has.pages) l) may)
+
+  -- and on the word of a group, where nothing is said: each of its pages is looked at in turn
+  pub look_silently-over : (shape : TableShape) (slots id : ℕ) (v : View X) (h : ℕ) → v.live ≡ true → 0 < length v.used
+      → h < shape.pages → head_in shape.began.origin.groups h ≡ h
+      → AllowsStep (Stands stored keeps tied shape tells) slots id v h (λ n. n)
+      (told_of shape tells (InTurn (λ q. LookTells keeps tied tells q None) (group_of shape.began.origin.groups h)))
+  look_silently-over shape slots id v h live number l own =
+      over-each stored keeps tied shape tells slots id v h (λ n. n) (λ q. LookTells keeps tied tells q None)
+      (λ _ _. Unit {0}) live number l own (λ _ _. tt) (λ q n u w live has t. fit t.0.brings live has)
+      (λ _ _ _ _ _ _ _ m. m)
+      (λ start _ q low s u r there live has _ _. look-plays start s r id u there live has q None low (inl refl))
 
 module _ {X B : Type 0} (stored : B → Stored) (keeps : Start → Kept X → Type 0)
     (tied : Start → ℕ → List ℕ → ℕ → List ℕ → Type 0) (tells : Bool) where

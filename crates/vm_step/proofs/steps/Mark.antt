@@ -1,5 +1,8 @@
 -- A mark that is set or taken away: it leaves all that the pass has and knows; that the table allows it, and that it is its event.
-use Rattle.vm_event.specs.Groups.{IsUngrouped}
+use Rattle.vm_event.specs.Groups.{head_in, IsUngrouped}
+use Rattle.vm_rule.specs.Spread.{group_of}
+use Rattle.vm_step.specs.Over.{InTurn}
+use Rattle.vm_step.proofs.Over.{over-each}
 use Rattle.vm_rule.specs.declared.view.WordPlace.TheVariants as places
 use Rattle.vm_step.proofs.{Fit.fit, Here.world, Standing.allows}
 use Rattle.vm_step.proofs.Exchange.{draft-stays, exchange-event, exchange-settles, exchanged_at, IsExchange}
@@ -21,13 +24,17 @@ module _ {X B : Type 0} (stored : B → Stored) (keeps : Start → Kept X → Ty
     (r : Ruled stored keeps tied start tells s)
     (id : ℕ) (v : View X) (there : get_elem? s.views id ≡ some v) (live : v.live ≡ true) (number : 0 < length v.used)
     (p expects : ℕ) (l : p < start.pages) where
-  -- an event that changes the state of the page alone, taken or lost, keeps the rule and tells what it is to tell
-  pub mark-tells : (x state : ℕ) (e : Event) → actor_of e ≡ id → IsExchange stored start s r.releases r.drafts id p
-      expects x r.drafts v e (record ((world stored keeps tied start tells s r).core.pages p) { state = state })
-      → (w : View X) × Ruled stored keeps tied start tells
+  -- the rule is kept where the word becomes x, if it is the one expected, and what is to be told is told
+  abbrev MarkPlays : ℕ → Type 0
+  MarkPlays x = (w : View X) × Ruled stored keeps tied start tells
       (became stored keeps tied start tells s
       (exchanged_at stored keeps tied start tells s r id v there live number (places.State p) expects x l) id w)
       × MarkTold p expects (slice_index s.words p) x v w
+
+  -- so it is of an event that changes the state of the page alone, taken or lost
+  mark-tells : (x state : ℕ) (e : Event) → actor_of e ≡ id → IsExchange stored start s r.releases r.drafts id p
+      expects x r.drafts v e (record ((world stored keeps tied start tells s r).core.pages p) { state = state })
+      → MarkPlays x
   mark-tells x state e actor is =
       let y : Page = record ((world stored keeps tied start tells s r).core.pages p) { state = state } in
       let k = tried stored keeps tied start tells s r id v there live number p expects x l r.drafts v e y actor is
@@ -54,9 +61,20 @@ module _ {X B : Type 0} (stored : B → Stored) (keeps : Start → Kept X → Ty
         },
       )
 
+  -- a mark that is set is one, and one that is taken away
+  pub mark-plays : state_of expects ≡ UNLOCKED → MarkPlays (word_of MARKED (version_of expects))
+  mark-plays may =
+      mark-tells (word_of MARKED (version_of expects)) MARKED (Mark id p expects) refl
+      (mark-exchange stored start s r.releases r.drafts id v p expects r.wide.0 l there may)
+
+  pub unmark-plays : state_of expects ≡ MARKED → MarkPlays (word_of UNLOCKED (version_of expects))
+  unmark-plays may =
+      mark-tells (word_of UNLOCKED (version_of expects)) UNLOCKED (Unmark id p expects) refl
+      (unmark-exchange stored start s r.releases r.drafts id v p expects r.wide.0 l there may)
+
 module _ {X B : Type 0} (stored : B → Stored) (keeps : Start → Kept X → Type 0)
     (tied : Start → ℕ → List ℕ → ℕ → List ℕ → Type 0) (tells : Bool) where
-  -- so it does of every table that stands: where the mark is set, and where it is taken away
+  -- and so it is on every table that stands
   pub mark-allows : (shape : TableShape) (slots id : ℕ) (v : View X) (i : ℕ) (p expects x : ℕ) → v.live ≡ true
       → 0 < length v.used → p < shape.pages → state_of expects ≡ UNLOCKED → x ≡ (word_of MARKED (version_of expects))
       → IsPlacedAt shape (places.State p) i → IsUngrouped shape.began.origin.groups p
@@ -68,9 +86,7 @@ module _ {X B : Type 0} (stored : B → Stored) (keeps : Start → Kept X → Ty
       (λ n v w. MarkTold p expects n (word_of MARKED (version_of expects)) v w) live is (λ start has. subst (λ (o : Origin). IsUngrouped o.groups p) (sym has.same) none)
       (λ n. ap (λ z. either (eqb n expects) z n) spells) (λ n w t. fit t.brings live number)
       (λ start has s r there _.
-      mark-tells stored keeps tied start tells s r id v there live number p expects
-      (subst (λ n. p < n) (sym has.pages) l) (word_of MARKED (version_of expects)) MARKED (Mark id p expects) refl
-      (mark-exchange stored start s r.releases r.drafts id v p expects r.wide.0 (subst (λ n. p < n) (sym has.pages) l) there may))
+      mark-plays stored keeps tied start tells s r id v there live number p expects (subst (λ n. p < n) (sym has.pages) l) may)
 
   pub unmark-allows : (shape : TableShape) (slots id : ℕ) (v : View X) (i : ℕ) (p expects x : ℕ) → v.live ≡ true
       → 0 < length v.used → p < shape.pages → state_of expects ≡ MARKED → x ≡ (word_of UNLOCKED (version_of expects))
@@ -83,10 +99,36 @@ module _ {X B : Type 0} (stored : B → Stored) (keeps : Start → Kept X → Ty
       (λ n v w. MarkTold p expects n (word_of UNLOCKED (version_of expects)) v w) live is (λ start has. subst (λ (o : Origin). IsUngrouped o.groups p) (sym has.same) none)
       (λ n. ap (λ z. either (eqb n expects) z n) spells) (λ n w t. fit t.brings live number)
       (λ start has s r there _.
-      mark-tells stored keeps tied start tells s r id v there live number p expects
-      (subst (λ n. p < n) (sym has.pages) l) (word_of UNLOCKED (version_of expects)) UNLOCKED
-      (Unmark id p expects) refl
-      (unmark-exchange stored start s r.releases r.drafts id v p expects r.wide.0 (subst (λ n. p < n) (sym has.pages) l) there may))
+      unmark-plays stored keeps tied start tells s r id v there live number p expects (subst (λ n. p < n) (sym has.pages) l) may)
+
+  -- on the word of a group the mark is set, or taken away, of each of its pages in turn
+  pub mark-over : (shape : TableShape) (slots id : ℕ) (v : View X) (h expects : ℕ) → v.live ≡ true → 0 < length v.used
+      → h < shape.pages → state_of expects ≡ UNLOCKED → head_in shape.began.origin.groups h ≡ h
+      → AllowsStep (Stands stored keeps tied shape tells) slots id v h
+      (λ n. either (eqb n expects) (word_of MARKED (version_of expects)) n)
+      (told_of shape tells (InTurn (λ q n v w. MarkTold q expects n (word_of MARKED (version_of expects)) v w)
+      (group_of shape.began.origin.groups h)))
+  mark-over shape slots id v h expects live number l may own =
+      over-each stored keeps tied shape tells slots id v h
+      (λ n. either (eqb n expects) (word_of MARKED (version_of expects)) n)
+      (λ q n v w. MarkTold q expects n (word_of MARKED (version_of expects)) v w) (λ _ _. Unit {0}) live number l own
+      (λ _ _. tt) (λ q n u w live has t. fit t.brings live has) (λ _ _ _ _ _ _ _ m. m)
+      (λ start _ q low s u r there live has _ _.
+      mark-plays stored keeps tied start tells s r id u there live has q expects low may)
+
+  pub unmark-over : (shape : TableShape) (slots id : ℕ) (v : View X) (h expects : ℕ) → v.live ≡ true → 0 < length v.used
+      → h < shape.pages → state_of expects ≡ MARKED → head_in shape.began.origin.groups h ≡ h
+      → AllowsStep (Stands stored keeps tied shape tells) slots id v h
+      (λ n. either (eqb n expects) (word_of UNLOCKED (version_of expects)) n)
+      (told_of shape tells (InTurn (λ q n v w. MarkTold q expects n (word_of UNLOCKED (version_of expects)) v w)
+      (group_of shape.began.origin.groups h)))
+  unmark-over shape slots id v h expects live number l may own =
+      over-each stored keeps tied shape tells slots id v h
+      (λ n. either (eqb n expects) (word_of UNLOCKED (version_of expects)) n)
+      (λ q n v w. MarkTold q expects n (word_of UNLOCKED (version_of expects)) v w) (λ _ _. Unit {0}) live number l own
+      (λ _ _. tt) (λ q n u w live has t. fit t.brings live has) (λ _ _ _ _ _ _ _ m. m)
+      (λ start _ q low s u r there live has _ _.
+      unmark-plays stored keeps tied start tells s r id u there live has q expects low may)
 
   pub mark-event : MarkIsItsEvent stored keeps tied tells
   mark-event start s id p expects found v w pass at may told =

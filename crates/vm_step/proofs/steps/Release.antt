@@ -37,7 +37,7 @@ use Rattle.vm_step.proofs.Prelude.{MayDowngrade, MayEvict, MayGiveUp, ne_eqb, ne
 use Rattle.vm_step.proofs.Prelude.{Option, or_parts, Origin, owed_after, Page, page_at, put, put_at, refl, Release}
 use Rattle.vm_step.proofs.Prelude.{release-here, released_same, released_view, ReleaseEvictedIsItsEvent}
 use Rattle.vm_step.proofs.Prelude.{ReleaseIsItsEvent, ReleaseTells, ReleaseTold, replicate, Ruled, Seat, seat_of}
-use Rattle.vm_step.proofs.Prelude.{set_here, Shows, slice_index, TableShape, slice_set, Some, some, Stands, Start}
+use Rattle.vm_step.proofs.Prelude.{became, set_here, Shows, Table, slice_index, TableShape, slice_set, Some, some, Stands, Start}
 use Rattle.vm_step.proofs.Prelude.{StaysAlone, steps, Stored, subst, suc, sym, table_after, told_of, true, true≢false}
 use Rattle.vm_step.proofs.Prelude.{upd-other, upd-same, View, without, without-none, word_of, world_of, ℕ, ⊎_elim}
 use Rattle.vm_step.proofs.Prelude.{◌++◌, ◌+◌, ◌<◌, ◌||◌, ◌∙◌, ◌∷◌, ◌≡◌, ◌≢◌, ◌≤◌}
@@ -562,7 +562,65 @@ module _ {X B : Type 0} (stored : B → Stored) (keeps : Start → Kept X → Ty
       (left-actor rel.way rel.id rel.p) refl
       (release-shows rel (release-owner start tells rel number))
 
-  -- so it is of every table that stands
+  module _ (start : Origin) (tells : Bool) (s : Table (Option B) (View X)) (r : Ruled stored keeps tied start tells s)
+      (id : ℕ) (v : View X) (there : get_elem? s.views id ≡ some v) (live : v.live ≡ true) (number : 0 < length v.used)
+      (p version : ℕ) (low : p < start.pages) (below : version < MAX_VERSION) where
+    -- where the word becomes x, the table meets the rule with some view of the pass of which this is told, and what the layer above keeps
+    abbrev LeavesAt : ℕ → (View X → View X → Type 0) → Type 0
+    LeavesAt x told = (w : View X) × Ruled stored keeps tied start tells
+        (became stored keeps tied start tells s (slice_set s.words p x) id w) × ReleaseTells keeps tells p told v w
+
+    pub release-plays : (rest : List ℕ) (said : Option X) → MayGiveUp may_release p version rest said v
+        → LeavesAt (version + 1) (ReleaseTold p version rest said)
+    release-plays rest said g =
+        let rel : Releasing stored keeps tied start tells may_release = giving-up s r id v there live p version rest said low below g in
+        let k = release-steps start tells rel number in (
+          left rel,
+          k.0,
+          (
+            record {
+              brings = k.1;
+              numbers = λ t same. numbers-kept p v t same (held-zero rel (sym (tells-here rel) ∙ t));
+            },
+            release-kept rel k.0 (release-owner start tells rel number),
+          ),
+        )
+
+    -- a page that is not resident becomes Evicted, with the words that it had
+    pub release_evicted-plays : MayEvict v p version → LeavesAt (word_of EVICTED (version + 1)) (EvictTold p version)
+    release_evicted-plays g =
+        let rel : Releasing stored keeps tied start tells may_release = evicting s r id v there live p version low below g in
+        let k = release-steps start tells rel number in (
+          left rel,
+          k.0,
+          (
+            record {
+              brings = subst (λ y. Brings (did_store (places.State p) (word_of EVICTED (version + 1))) (own rel ∷ []) []
+                  v y (left rel)) (evicted-is v p version g) k.1;
+              same = evicted-same s r id v there live p version low g;
+            },
+            release-kept rel k.0 (release-owner start tells rel number),
+          ),
+        )
+
+    -- a page is released to a share of the pass
+    pub downgrade-plays : MayDowngrade may_release v p version → LeavesAt (word_of 1 (version + 1)) (DowngradeTold p version)
+    downgrade-plays g =
+        let rel : Releasing stored keeps tied start tells may_release = downgrading s r id v there live p version low below g in
+        let k = release-steps start tells rel number in (
+          left rel,
+          k.0,
+          (
+            record {
+              brings = subst (λ y. Brings (did_store (places.State p) (word_of 1 (version + 1))) (own rel ∷ []) [] v y
+                  (left rel)) (downgraded-is v p version g) k.1;
+              numbers = λ t same. numbers-kept p v t same (held-zero rel (sym (tells-here rel) ∙ t));
+            },
+            release-kept rel k.0 (release-owner start tells rel number),
+          ),
+        )
+
+  -- so it is on every table
   pub release-allows : (shape : TableShape) (tells : Bool) (slots id : ℕ) (v : View X) (i : ℕ) (p version : ℕ)
       (rest : List ℕ) (said : Option X) → v.live ≡ true → 0 < length v.used → p < shape.pages → version < MAX_VERSION
       → MayGiveUp may_release p version rest said v → IsPlacedAt shape (places.State p) i → IsUngrouped shape.began.origin.groups p
@@ -570,24 +628,12 @@ module _ {X B : Type 0} (stored : B → Stored) (keeps : Start → Kept X → Ty
       (told_of shape tells (λ _. ReleaseTells keeps tells p (ReleaseTold p version rest said)))
   release-allows shape tells slots id v i p version rest said live number l below g is none =
       allows stored keeps tied shape tells slots id v i (places.State p) (λ _. version + 1) (λ _. version + 1)
-      (λ _. ReleaseTells keeps tells p (ReleaseTold p version rest said)) live is (λ start has. subst (λ (o : Origin). IsUngrouped o.groups p) (sym has.same) none) (λ _. refl)
+      (λ _. ReleaseTells keeps tells p (ReleaseTold p version rest said)) live is
+      (λ start has. subst (λ (o : Origin). IsUngrouped o.groups p) (sym has.same) none) (λ _. refl)
       (λ _ w t. fit t.0.brings live number)
-      (λ start has s r there _.
-      let low : p < start.pages = subst (λ n. p < n) (sym has.pages) l in
-      let rel : Releasing stored keeps tied start tells may_release = giving-up s r id v there live p version rest said low below g in
-      let k = release-steps start tells rel number in (
-        left rel,
-        k.0,
-        (
-          record {
-            brings = k.1;
-            numbers = λ t same. numbers-kept p v t same (held-zero rel (sym (tells-here rel) ∙ t));
-          },
-          release-kept rel k.0 (release-owner start tells rel number),
-        ),
-      ))
+      (λ start has s r there _. release-plays start tells s r id v there live number p version
+      (subst (λ n. p < n) (sym has.pages) l) below rest said g)
 
-  -- a page that is not resident becomes Evicted, with the words that it had
   pub release_evicted-allows : (shape : TableShape) (tells : Bool) (slots id : ℕ) (v : View X) (i : ℕ)
       (p version x : ℕ) → v.live ≡ true → 0 < length v.used → p < shape.pages → version < MAX_VERSION
       → MayEvict v p version → x ≡ word_of EVICTED (version + 1) → IsPlacedAt shape (places.State p) i → IsUngrouped shape.began.origin.groups p
@@ -595,25 +641,12 @@ module _ {X B : Type 0} (stored : B → Stored) (keeps : Start → Kept X → Ty
       (told_of shape tells (λ _. ReleaseTells keeps tells p (EvictTold p version)))
   release_evicted-allows shape tells slots id v i p version x live number l below g spells is none =
       allows stored keeps tied shape tells slots id v i (places.State p) (λ _. x) (λ _. word_of EVICTED (version + 1))
-      (λ _. ReleaseTells keeps tells p (EvictTold p version)) live is (λ start has. subst (λ (o : Origin). IsUngrouped o.groups p) (sym has.same) none) (λ _. spells)
+      (λ _. ReleaseTells keeps tells p (EvictTold p version)) live is
+      (λ start has. subst (λ (o : Origin). IsUngrouped o.groups p) (sym has.same) none) (λ _. spells)
       (λ _ w t. fit t.0.brings live number)
-      (λ start has s r there _.
-      let low : p < start.pages = subst (λ n. p < n) (sym has.pages) l in
-      let rel : Releasing stored keeps tied start tells may_release = evicting s r id v there live p version low below g in
-      let k = release-steps start tells rel number in (
-        left rel,
-        k.0,
-        (
-          record {
-            brings = subst (λ y. Brings (did_store (places.State p) (word_of EVICTED (version + 1))) (own rel ∷ []) []
-                v y (left rel)) (evicted-is v p version g) k.1;
-            same = evicted-same s r id v there live p version low g;
-          },
-          release-kept rel k.0 (release-owner start tells rel number),
-        ),
-      ))
+      (λ start has s r there _. release_evicted-plays start tells s r id v there live number p version
+      (subst (λ n. p < n) (sym has.pages) l) below g)
 
-  -- a page is released to a share of the pass
   pub downgrade-allows : (shape : TableShape) (tells : Bool) (slots id : ℕ) (v : View X) (i : ℕ) (p version x : ℕ)
       → v.live ≡ true → 0 < length v.used → p < shape.pages → version < MAX_VERSION
       → MayDowngrade may_release v p version → x ≡ word_of 1 (version + 1) → IsPlacedAt shape (places.State p) i → IsUngrouped shape.began.origin.groups p
@@ -621,23 +654,11 @@ module _ {X B : Type 0} (stored : B → Stored) (keeps : Start → Kept X → Ty
       (told_of shape tells (λ _. ReleaseTells keeps tells p (DowngradeTold p version)))
   downgrade-allows shape tells slots id v i p version x live number l below g spells is none =
       allows stored keeps tied shape tells slots id v i (places.State p) (λ _. x) (λ _. word_of 1 (version + 1))
-      (λ _. ReleaseTells keeps tells p (DowngradeTold p version)) live is (λ start has. subst (λ (o : Origin). IsUngrouped o.groups p) (sym has.same) none) (λ _. spells)
+      (λ _. ReleaseTells keeps tells p (DowngradeTold p version)) live is
+      (λ start has. subst (λ (o : Origin). IsUngrouped o.groups p) (sym has.same) none) (λ _. spells)
       (λ _ w t. fit t.0.brings live number)
-      (λ start has s r there _.
-      let low : p < start.pages = subst (λ n. p < n) (sym has.pages) l in
-      let rel : Releasing stored keeps tied start tells may_release = downgrading s r id v there live p version low below g in
-      let k = release-steps start tells rel number in (
-        left rel,
-        k.0,
-        (
-          record {
-            brings = subst (λ y. Brings (did_store (places.State p) (word_of 1 (version + 1))) (own rel ∷ []) [] v y
-                (left rel)) (downgraded-is v p version g) k.1;
-            numbers = λ t same. numbers-kept p v t same (held-zero rel (sym (tells-here rel) ∙ t));
-          },
-          release-kept rel k.0 (release-owner start tells rel number),
-        ),
-      ))
+      (λ start has s r there _. downgrade-plays start tells s r id v there live number p version
+      (subst (λ n. p < n) (sym has.pages) l) below g)
 
 module _ {X B : Type 0} (stored : B → Stored) (keeps : Start → Kept X → Type 0)
     (tied : Start → ℕ → List ℕ → ℕ → List ℕ → Type 0) (tells : Bool) where

@@ -9,7 +9,10 @@ use Rattle.vm_event.specs.declared.event.Seen.TheVariants as sights
 use Rattle.vm_event.proofs.Alone.{act-alone, acted-alone}
 use Rattle.vm_owner.specs.Kept.{PagesHave, IsTurn, told}
 use Rattle.vm_rule.specs.Prelude.{entries_where, mine_with}
-use Rattle.vm_event.specs.Groups.{IsUngrouped}
+use Rattle.vm_event.specs.Groups.{head_in, IsUngrouped}
+use Rattle.vm_rule.specs.Spread.{group_of}
+use Rattle.vm_step.specs.Over.{InTurn}
+use Rattle.vm_step.proofs.Over.{over-each}
 use Rattle.vm_rule.specs.declared.view.WordPlace.TheVariants as places
 use Rattle.vm_step.specs.steps.Share.{HasShare, LockSharedTells, MayTellHeld, pages_known}
 use Rattle.vm_step.proofs.{Evidenced.taken-view, Fit.either-has, Fit.either-lives, Fit.fit, Keeping.kept-now}
@@ -109,6 +112,16 @@ module _ {X B : Type 0} (stored : B → Stored) (keeps : Start → Kept X → Ty
             let known = ((r.known id v there live).knows p).calls (or_right (seat_of v p).exclusive (seat_of v p).writing writes) in
             sym known.1 ∙ may.told writes (sym (ap (λ (k : Seat). k.shares) here) ∙ one) ∙ known.3;
       }
+
+-- a share that is given up of one page leaves another as it has to be for its own
+unshare-stays : {X : Type 0} (q found p : ℕ) (u w : View X) → UnshareTold q found u w → p ≢ q → MayUnshare u p → MayUnshare w p
+unshare-stays q found p u w t ne may =
+    let same : seat_of (unshared_view q u) p ≡ seat_of u p = upd-other (put_at no_seat u.seats) q _ p ne in
+    subst (λ (x : View _). MayUnshare x p) (sym t.brings.view) (record {
+      has = subst (λ (k : Seat). 1 ≤ k.shares) (sym same) may.has;
+      told = λ writes one. may.told (sym (ap (λ (k : Seat). k.writing) same) ∙ writes) (sym (ap (λ (k : Seat). k.shares) same) ∙ one);
+      home = may.home;
+    })
 
 -- a share less, as the machine counts
 less-wraps : (n : ℕ) → n < 18446744073709551616 → 1 ≤ state_of n → (n + (2 ^ 64 - 2 ^ 56)) % 2 ^ 64 ≡ n - 2 ^ 56
@@ -289,109 +302,137 @@ module _ {X B : Type 0} (stored : B → Stored) (keeps : Start → Kept X → Ty
 
 module _ {X B : Type 0} (stored : B → Stored) (keeps : Start → Kept X → Type 0)
     (tied : Start → ℕ → List ℕ → ℕ → List ℕ → Type 0) (tells : Bool) where
-  -- taken or lost, it keeps the rule of every table and tells what it is to tell
-  pub lock_shared-allows : (law : (start : Start) (kept : Kept X) (q p : ℕ) → keeps start kept → q < length kept.pages
-      → p < length kept.pages → tied start q (page_at kept.pages q) p (page_at kept.pages p))
+  module _ (law : (start : Start) (kept : Kept X) (q p : ℕ) → keeps start kept → q < length kept.pages → p < length kept.pages
+      → tied start q (page_at kept.pages q) p (page_at kept.pages p))
       (may_hold : Start → List (ℕ × List ℕ) → List (Entry X) → Type 0)
-      (holds : (start : Start) (kept : Kept X) (pages : List (ℕ × List ℕ)) (entries : List (Entry X))
+      (says : (start : Start) (kept : Kept X) (pages : List (ℕ × List ℕ)) (entries : List (Entry X))
       → keeps start kept → PagesHave kept.pages pages → IsTurn kept.history entries → may_hold start pages entries
-      → keeps start (told entries kept))
-      (shape : TableShape) (slots id : ℕ) (v : View X) (i : ℕ) (p expects : ℕ) (said : Option X) (x : ℕ)
-      → v.live ≡ true → 0 < length v.used → p < shape.pages → MayShare expects
-      → MayTellHeld tied may_hold p (version_of expects) said v
-      → x ≡ (word_of (one_share_more (state_of expects)) (version_of expects))
-      → IsPlacedAt shape (places.State p) i → IsUngrouped shape.began.origin.groups p
-      → AllowsStep (Stands stored keeps tied shape tells) slots id v i (λ n. either (eqb n expects) x n)
-      (told_of shape tells (LockSharedTells keeps tied tells p expects said))
-  lock_shared-allows law may_hold says shape slots id v i p expects said x live number l' may tell spells is none =
-      allows stored keeps tied shape tells slots id v i (places.State p) (λ n. either (eqb n expects) x n)
-      (λ n. either (eqb n expects) (word_of (one_share_more (state_of expects)) (version_of expects)) n)
-      (LockSharedTells keeps tied tells p expects said) live is (λ start has. subst (λ (o : Origin). IsUngrouped o.groups p) (sym has.same) none) (λ n. ap (λ z. either (eqb n expects) z n) spells)
-      (λ n w t. fit t.0.brings (either-lives _ _ v live live) (either-has _ _ v number number))
-      (λ start has s r there _.
-      let l : p < start.pages = subst (λ n. p < n) (sym has.pages) l' in
-      let page : Page = (world stored keeps tied start tells s r).core.pages p in
-      let owners : ℕ → ℕ = (world stored keeps tied start tells s r).core.owners in
-      let held : Held = page_held stored keeps tied start tells s r p in
-      let inner : View X = shared_view p held said v in
-      let known : Held = put_at no_held inner.held p in
-      let locks : Bool = has_lock (seat_of v p) in
-      let seat : Seat = record (seat_of v p) { shares = (seat_of v p).shares + 1; reading = None } in
-      let unlocked : slice_index s.words p ≡ expects → page.state ≢ LOCKED =
-      (λ hit e. (shareable expects may).0 (sym (state-here stored start s p l ∙ ap state_of hit) ∙ e)) in
-      let knows : KnowsPage seat known (shared page id) =
-      knows-shared locks p id (seat_of v p) held v.held page refl ((r.known id v there live).knows p)
-      (refl, refl, sym (block-here stored start s p l).0, sym (block-here stored start s p l).1) in
-      let frame : frame_of known.mapping ≡ frame_of page.trans = knows.shares (omega arith) in
-      let taken = locks-exchange stored start s r.releases r.drafts id v p expects r.wide.0 l there may held None in
-      let found = λ (hit : slice_index s.words p ≡ expects). finding stored keeps tied start tells s r id v there p expects l hit in
-      let quiet = λ (hit : slice_index s.words p ≡ expects).
-      sharer-shows stored keeps tied start tells s r id v there live p l expects
-      (word_of (one_share_more (state_of expects)) (version_of expects)) hit (LockS id p expects) (shared page id)
-      seat inner.held taken
-      (λ m. m) refl
-      (λ q ne. put-else locks p q held v.held ne)
-      knows
-      (owner-shared locks p (seat_of v p) held v.held owners refl ((r.known id v there live).owners p)) in
-      let shows = λ (hit : slice_index s.words p ≡ expects). share-says stored keeps tied start tells s r id v there
-      live number p l expects said hit (unlocked hit) law may_hold says tell held taken (found hit) (quiet hit) in
-      let k = tried-says stored keeps tied start tells s r id v there live number p expects
-      (word_of (one_share_more (state_of expects)) (version_of expects)) l (entries_where v said)
-      (where-lost v said) r.drafts inner (LockS id p expects) _ refl taken shows in
-      let mine : slice_index s.words p ≡ expects → put_at no_held k.0.held p ≡ known =
-      (λ hit. ap (λ (y : View X). put_at no_held y.held p) k.1.brings.view
-      ∙ ap {B = Held} (λ b. put_at no_held (if b then inner else v).held p)
-      (eq-eqb (slice_index s.words p) expects hit)) in (
-        k.0,
-        k.1.rule,
-        (
-          record {
-            held = held;
-            brings = k.1.brings;
-            version = k.1.version;
-            since = k.1.since;
-            older = k.1.older;
-            size = k.1.size;
-            resident = λ hit. framed-some _ page.trans (ap (λ (h : Held). frame_of h.mapping) (mine hit) ∙ frame)
-                ((r.inv.pages p).stands.resident (unlocked hit)
-                (λ e. (shareable expects may).1 (sym (state-here stored start s p l ∙ ap state_of hit) ∙ e)));
-            inside = λ hit m e.
-                let n : (n : Mapping) × (page.trans ≡ Some n) × (m.frame ≡ n.frame) =
-                framed-same _ page.trans m (ap (λ (h : Held). frame_of h.mapping) (mine hit) ∙ frame) e in
-                subst (λ (o : Origin). m.frame < o.frames) (sym (r.heard id v there live).same_start)
-                (subst (λ f. f < start.frames) (sym n.2) (frame-inside stored keeps tied start tells s r p n.0 n.1));
-            writes = λ e. subst (λ (k : Seat). 1 ≤ k.shares) (seat-here stored start s id p v l there)
-                ((r.inv.pages p).locks.writer id
-                (ap (λ (k : Seat). k.writing) (seat-here stored start s id p v l there) ∙ e)).0;
-            reads_from = λ hit o e n f at m me.
-                let k : (k : Mapping) × (page.trans ≡ Some k) × (m.frame ≡ k.frame) =
-                framed-same _ page.trans m (ap (λ (h : Held). frame_of h.mapping) (mine hit) ∙ frame) me in
-                let version : o.version ≡ page.version = n ∙ ap version_of (sym hit) ∙ sym (version-here stored start s p l) in
-                k.2 ∙ sym (((reads stored keeps tied start tells s r id v there live p l).current (unlocked hit)
-                (λ gone. (shareable expects may).1 (sym (state-here stored start s p l ∙ ap state_of hit) ∙ gone))
-                o e version).at_frame f at k.0 k.1);
-            validates = λ t hit. tried-validates stored keeps tied start tells s r id v there live number p expects
-                (word_of (one_share_more (state_of expects)) (version_of expects)) l law _ k.0 k.1 (unlocked hit) t
-                hit;
-          },
-          λ t hit. let one = k.2 hit in
-              subst (IsKeptNow keeps p (Unit {0})) (sym one.0)
-              (share-kept stored keeps tied start tells s r id v there live number p l expects said hit (unlocked hit)
-              law may_hold says tell held taken (found hit) (quiet hit).next (shows hit) one.1 t),
-        ),
-      ))
+      → keeps start (told entries kept)) where
+    -- taken or lost, it keeps the rule and tells what it is to tell
+    pub lock_shared-plays : (start : Origin) (s : Table (Option B) (View X)) (r : Ruled stored keeps tied start tells s)
+        (id : ℕ) (v : View X) → get_elem? s.views id ≡ some v → v.live ≡ true → 0 < length v.used
+        → (p expects : ℕ) (said : Option X) → p < start.pages → MayShare expects
+        → MayTellHeld tied may_hold p (version_of expects) said v
+        → (w : View X) × Ruled stored keeps tied start tells
+        (became stored keeps tied start tells s
+        (slice_set s.words p (either (eqb (slice_index s.words p) expects)
+        (word_of (one_share_more (state_of expects)) (version_of expects)) (slice_index s.words p))) id w)
+        × LockSharedTells keeps tied tells p expects said (slice_index s.words p) v w
+    lock_shared-plays start s r id v there live number p expects said l may tell =
+        let page : Page = (world stored keeps tied start tells s r).core.pages p in
+        let owners : ℕ → ℕ = (world stored keeps tied start tells s r).core.owners in
+        let held : Held = page_held stored keeps tied start tells s r p in
+        let inner : View X = shared_view p held said v in
+        let known : Held = put_at no_held inner.held p in
+        let locks : Bool = has_lock (seat_of v p) in
+        let seat : Seat = record (seat_of v p) { shares = (seat_of v p).shares + 1; reading = None } in
+        let unlocked : slice_index s.words p ≡ expects → page.state ≢ LOCKED =
+        (λ hit e. (shareable expects may).0 (sym (state-here stored start s p l ∙ ap state_of hit) ∙ e)) in
+        let knows : KnowsPage seat known (shared page id) =
+        knows-shared locks p id (seat_of v p) held v.held page refl ((r.known id v there live).knows p)
+        (refl, refl, sym (block-here stored start s p l).0, sym (block-here stored start s p l).1) in
+        let frame : frame_of known.mapping ≡ frame_of page.trans = knows.shares (omega arith) in
+        let taken = locks-exchange stored start s r.releases r.drafts id v p expects r.wide.0 l there may held None in
+        let found = λ (hit : slice_index s.words p ≡ expects). finding stored keeps tied start tells s r id v there p expects l hit in
+        let quiet = λ (hit : slice_index s.words p ≡ expects).
+        sharer-shows stored keeps tied start tells s r id v there live p l expects
+        (word_of (one_share_more (state_of expects)) (version_of expects)) hit (LockS id p expects) (shared page id)
+        seat inner.held taken
+        (λ m. m) refl
+        (λ q ne. put-else locks p q held v.held ne)
+        knows
+        (owner-shared locks p (seat_of v p) held v.held owners refl ((r.known id v there live).owners p)) in
+        let shows = λ (hit : slice_index s.words p ≡ expects). share-says stored keeps tied start tells s r id v there
+        live number p l expects said hit (unlocked hit) law may_hold says tell held taken (found hit) (quiet hit) in
+        let k = tried-says stored keeps tied start tells s r id v there live number p expects
+        (word_of (one_share_more (state_of expects)) (version_of expects)) l (entries_where v said)
+        (where-lost v said) r.drafts inner (LockS id p expects) _ refl taken shows in
+        let mine : slice_index s.words p ≡ expects → put_at no_held k.0.held p ≡ known =
+        (λ hit. ap (λ (y : View X). put_at no_held y.held p) k.1.brings.view
+        ∙ ap {B = Held} (λ b. put_at no_held (if b then inner else v).held p)
+        (eq-eqb (slice_index s.words p) expects hit)) in (
+          k.0,
+          k.1.rule,
+          (
+            record {
+              held = held;
+              brings = k.1.brings;
+              version = k.1.version;
+              since = k.1.since;
+              older = k.1.older;
+              size = k.1.size;
+              resident = λ hit. framed-some _ page.trans (ap (λ (h : Held). frame_of h.mapping) (mine hit) ∙ frame)
+                  ((r.inv.pages p).stands.resident (unlocked hit)
+                  (λ e. (shareable expects may).1 (sym (state-here stored start s p l ∙ ap state_of hit) ∙ e)));
+              inside = λ hit m e.
+                  let n : (n : Mapping) × (page.trans ≡ Some n) × (m.frame ≡ n.frame) =
+                  framed-same _ page.trans m (ap (λ (h : Held). frame_of h.mapping) (mine hit) ∙ frame) e in
+                  subst (λ (o : Origin). m.frame < o.frames) (sym (r.heard id v there live).same_start)
+                  (subst (λ f. f < start.frames) (sym n.2) (frame-inside stored keeps tied start tells s r p n.0 n.1));
+              writes = λ e. subst (λ (k : Seat). 1 ≤ k.shares) (seat-here stored start s id p v l there)
+                  ((r.inv.pages p).locks.writer id
+                  (ap (λ (k : Seat). k.writing) (seat-here stored start s id p v l there) ∙ e)).0;
+              reads_from = λ hit o e n f at m me.
+                  let k : (k : Mapping) × (page.trans ≡ Some k) × (m.frame ≡ k.frame) =
+                  framed-same _ page.trans m (ap (λ (h : Held). frame_of h.mapping) (mine hit) ∙ frame) me in
+                  let version : o.version ≡ page.version = n ∙ ap version_of (sym hit) ∙ sym (version-here stored start s p l) in
+                  k.2 ∙ sym (((reads stored keeps tied start tells s r id v there live p l).current (unlocked hit)
+                  (λ gone. (shareable expects may).1 (sym (state-here stored start s p l ∙ ap state_of hit) ∙ gone))
+                  o e version).at_frame f at k.0 k.1);
+              validates = λ t hit. tried-validates stored keeps tied start tells s r id v there live number p expects
+                  (word_of (one_share_more (state_of expects)) (version_of expects)) l law _ k.0 k.1 (unlocked hit) t
+                  hit;
+            },
+            λ t hit. let one = k.2 hit in
+                subst (IsKeptNow keeps p (Unit {0})) (sym one.0)
+                (share-kept stored keeps tied start tells s r id v there live number p l expects said hit (unlocked hit)
+                law may_hold says tell held taken (found hit) (quiet hit).next (shows hit) one.1 t),
+          ),
+        )
 
-  -- it keeps the rule of every table and tells what it is to tell
-  pub unlock_shared-allows : (shape : TableShape) (slots id : ℕ) (v : View X) (i : ℕ) (p : ℕ) → v.live ≡ true
-      → 0 < length v.used → p < shape.pages → MayUnshare v p → IsPlacedAt shape (places.State p) i → IsUngrouped shape.began.origin.groups p
-      → AllowsStep (Stands stored keeps tied shape tells) slots id v i (λ n. (n + (2 ^ 64 - 2 ^ 56)) % 2 ^ 64)
-      (told_of shape tells (UnshareTold p))
-  unlock_shared-allows shape slots id v i p live number l' may is none =
-      allows stored keeps tied shape tells slots id v i (places.State p) (λ n. (n + (2 ^ 64 - 2 ^ 56)) % 2 ^ 64)
-      (λ n. (n + (2 ^ 64 - 2 ^ 56)) % 2 ^ 64) (UnshareTold p) live is (λ start has. subst (λ (o : Origin). IsUngrouped o.groups p) (sym has.same) none) (λ n. refl)
-      (λ n w t. fit t.brings live number)
-      (λ start has s r there below.
-      let l : p < start.pages = subst (λ n. p < n) (sym has.pages) l' in
+    -- so it is on every table
+    pub lock_shared-allows : (shape : TableShape) (slots id : ℕ) (v : View X) (i : ℕ) (p expects : ℕ) (said : Option X) (x : ℕ)
+        → v.live ≡ true → 0 < length v.used → p < shape.pages → MayShare expects
+        → MayTellHeld tied may_hold p (version_of expects) said v
+        → x ≡ (word_of (one_share_more (state_of expects)) (version_of expects))
+        → IsPlacedAt shape (places.State p) i → IsUngrouped shape.began.origin.groups p
+        → AllowsStep (Stands stored keeps tied shape tells) slots id v i (λ n. either (eqb n expects) x n)
+        (told_of shape tells (LockSharedTells keeps tied tells p expects said))
+    lock_shared-allows shape slots id v i p expects said x live number l may tell spells is none =
+        allows stored keeps tied shape tells slots id v i (places.State p) (λ n. either (eqb n expects) x n)
+        (λ n. either (eqb n expects) (word_of (one_share_more (state_of expects)) (version_of expects)) n)
+        (LockSharedTells keeps tied tells p expects said) live is
+        (λ start has. subst (λ (o : Origin). IsUngrouped o.groups p) (sym has.same) none)
+        (λ n. ap (λ z. either (eqb n expects) z n) spells)
+        (λ n w t. fit t.0.brings (either-lives _ _ v live live) (either-has _ _ v number number))
+        (λ start has s r there _. lock_shared-plays start s r id v there live number p expects said
+        (subst (λ n. p < n) (sym has.pages) l) may tell)
+
+    -- and on the word of a group, where nothing is said: a share of each of its pages is taken in turn
+    pub lock_shared_silently-over : (shape : TableShape) (slots id : ℕ) (v : View X) (h expects : ℕ) → v.live ≡ true
+        → 0 < length v.used → h < shape.pages → MayShare expects → head_in shape.began.origin.groups h ≡ h
+        → AllowsStep (Stands stored keeps tied shape tells) slots id v h
+        (λ n. either (eqb n expects) (word_of (one_share_more (state_of expects)) (version_of expects)) n)
+        (told_of shape tells
+        (InTurn (λ q. LockSharedTells keeps tied tells q expects None) (group_of shape.began.origin.groups h)))
+    lock_shared_silently-over shape slots id v h expects live number l may own =
+        over-each stored keeps tied shape tells slots id v h
+        (λ n. either (eqb n expects) (word_of (one_share_more (state_of expects)) (version_of expects)) n)
+        (λ q. LockSharedTells keeps tied tells q expects None) (λ _ _. Unit {0}) live number l own (λ _ _. tt)
+        (λ q n u w live has t. fit t.0.brings (either-lives _ _ u live live) (either-has _ _ u has has))
+        (λ _ _ _ _ _ _ _ m. m)
+        (λ start _ q low s u r there live has _ _.
+        lock_shared-plays start s r id u there live has q expects None low may (inl refl))
+
+  -- it keeps the rule and tells what it is to tell
+  pub unlock_shared-plays : (start : Origin) (s : Table (Option B) (View X)) (r : Ruled stored keeps tied start tells s)
+      (id : ℕ) (v : View X) → get_elem? s.views id ≡ some v → v.live ≡ true → 0 < length v.used → (p : ℕ)
+      → p < start.pages → MayUnshare v p → slice_index s.words p < 18446744073709551616
+      → (w : View X) × Ruled stored keeps tied start tells
+      (became stored keeps tied start tells s
+      (slice_set s.words p ((slice_index s.words p + (2 ^ 64 - 2 ^ 56)) % 2 ^ 64)) id w)
+      × UnshareTold p (slice_index s.words p) v w
+  unlock_shared-plays start s r id v there live number p l may below =
       let found : ℕ = slice_index s.words p in
       let less : ℕ = found - 2 ^ 56 in
       let words : List ℕ = slice_set s.words p less in
@@ -433,7 +474,32 @@ module _ {X B : Type 0} (stored : B → Stored) (keeps : Start → Kept X → Ty
             (became stored keeps tied start tells s (slice_set s.words p x) id w))
             (sym (less-wraps found below shared)) k.0,
         record { brings = k.1; version = version-told stored keeps tied start tells s r id v there live p l; shared = shared },
-      ))
+      )
+
+  -- so it is on every table
+  pub unlock_shared-allows : (shape : TableShape) (slots id : ℕ) (v : View X) (i : ℕ) (p : ℕ) → v.live ≡ true
+      → 0 < length v.used → p < shape.pages → MayUnshare v p → IsPlacedAt shape (places.State p) i → IsUngrouped shape.began.origin.groups p
+      → AllowsStep (Stands stored keeps tied shape tells) slots id v i (λ n. (n + (2 ^ 64 - 2 ^ 56)) % 2 ^ 64)
+      (told_of shape tells (UnshareTold p))
+  unlock_shared-allows shape slots id v i p live number l may is none =
+      allows stored keeps tied shape tells slots id v i (places.State p) (λ n. (n + (2 ^ 64 - 2 ^ 56)) % 2 ^ 64)
+      (λ n. (n + (2 ^ 64 - 2 ^ 56)) % 2 ^ 64) (UnshareTold p) live is
+      (λ start has. subst (λ (o : Origin). IsUngrouped o.groups p) (sym has.same) none) (λ n. refl)
+      (λ n w t. fit t.brings live number)
+      (λ start has s r there below. unlock_shared-plays start s r id v there live number p
+      (subst (λ n. p < n) (sym has.pages) l) may below)
+
+  -- and on the word of a group: a share of each of its pages is given up in turn
+  pub unlock_shared-over : (shape : TableShape) (slots id : ℕ) (v : View X) (h : ℕ) → v.live ≡ true → 0 < length v.used
+      → h < shape.pages → ((q : ℕ) → has q (group_of shape.began.origin.groups h) ≡ true → MayUnshare v q)
+      → head_in shape.began.origin.groups h ≡ h
+      → AllowsStep (Stands stored keeps tied shape tells) slots id v h (λ n. (n + (2 ^ 64 - 2 ^ 56)) % 2 ^ 64)
+      (told_of shape tells (InTurn UnshareTold (group_of shape.began.origin.groups h)))
+  unlock_shared-over shape slots id v h live number l may own =
+      over-each stored keeps tied shape tells slots id v h (λ n. (n + (2 ^ 64 - 2 ^ 56)) % 2 ^ 64) UnshareTold
+      (λ q u. MayUnshare u q) live number l own may (λ q n u w live has t. fit t.brings live has) unshare-stays
+      (λ start _ q low s u r there live has may below.
+      unlock_shared-plays start s r id u there live has q low may below)
 
   pub lock_shared-event : LockSharedIsItsEvent stored keeps tied tells
   lock_shared-event start s id p expects found said v w pass at may told =

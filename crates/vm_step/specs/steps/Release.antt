@@ -1,7 +1,8 @@
 -- A release of a page that is locked exclusively, as Unlocked, as Evicted or to a share: when it may be released,
 -- what each tells, and their events.
 -- `ReleaseTold`, `EvictTold` and `DowngradeTold` stand in vm_rule/specs/Releases.
-use Rattle.std.specs.Prelude.{[], ◌+◌, ◌<◌, ◌∷◌, ◌≡◌, ◌≤◌, ◌⊎◌, Bool, false, IsSome, length, List, None, Option, slice_set, true, ℕ}
+use Rattle.std.specs.Prelude.{[], ◌+◌, ◌<◌, ◌==◌, ◌∷◌, ◌≡◌, ◌≢◌, ◌≤◌, ◌⊎◌, Bool, false, if◌then◌else◌, IsSome, length, List, None, Option}
+use Rattle.std.specs.Prelude.{slice_set, true, ℕ}
 use Rattle.vm_event.specs.Prelude.{EVICTED, MAX_VERSION, word_of}
 use Rattle.vm_event.specs.declared.event.Event.TheVariants.{Downgrade, Release, ReleaseE}
 use Rattle.vm_event.specs.declared.event.Seen.TheVariants as sights
@@ -54,6 +55,23 @@ module _ {X : Type 0} where
     pub at : version ≡ (last_of v p).version
     pub group : IsFirst may_release p rest said v ⊎ IsLater p rest said v
 
+  -- as far as the page alone is concerned, the pass may release it at this version as one that is resident
+  pub record IsReleasable (version : ℕ) (v : View X) (p : ℕ) : Type 0 where
+    pub owns : (seat_of v p).exclusive ≡ true
+    pub resident : IsSome (held_at v p).mapping
+    pub owned : (held_at v p).owner ≡ p + 1
+    pub told : IsToldOf v p
+    pub home : IsNotOut v p
+    pub at : version ≡ (last_of v p).version
+
+  -- the pages `qs` under one state word may be released together: h, the first of them, as the first of a group with the others `rest`, to which
+  -- the other pages belong
+  pub record MayGiveUpAll (may_release : Start → List ℕ → List Change → List (Entry X) → Type 0) (qs : List ℕ) (h version : ℕ)
+      (rest : List ℕ) (said : Option X) (v : View X) : Type 0 where
+    pub first : IsFirst may_release h rest said v
+    pub each : (q : ℕ) → has q qs ≡ true → IsReleasable version v q
+    pub among : (q : ℕ) → has q qs ≡ true → q ≢ h → has q rest ≡ true
+
   -- p is released alone to a share, and nothing is said
   pub record MayDowngrade (may_release : Start → List ℕ → List Change → List (Entry X) → Type 0) (v : View X) (p version : ℕ) : Type 0 where
     pub owns : (seat_of v p).exclusive ≡ true
@@ -77,6 +95,11 @@ module _ {X : Type 0} where
   -- what each way of release tells, and what the layer above keeps then
   abbrev pub ReleaseTells : (Start → Kept X → Type 0) → Bool → ℕ → (View X → View X → Type 0) → View X → View X → Type 0
   ReleaseTells keeps tells p told v w = told v w × (tells ≡ true → IsKeptNow keeps p (Unit {0}) w)
+
+  -- what the release of page q tells as one of a group whose first page is h: with h alone the group's others become logical, and what is said an entry
+  abbrev pub ReleaseTellsOf : (Start → Kept X → Type 0) → Bool → ℕ → ℕ → List ℕ → Option X → ℕ → View X → View X → Type 0
+  ReleaseTellsOf keeps tells h version rest said q =
+      ReleaseTells keeps tells q (ReleaseTold q version (if q == h then rest else []) (if q == h then said else None))
 
 module _ {X B : Type 0} (stored : B → Stored) (keeps : Start → Kept X → Type 0)
     (tied : Start → ℕ → List ℕ → ℕ → List ℕ → Type 0) (tells : Bool) where

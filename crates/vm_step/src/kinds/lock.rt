@@ -12,11 +12,11 @@ use crate::took::{Took, answer};
 use std::marker::Brand;
 use vm_block::Block;
 use vm_event::StateWord;
-use vm_owner::Owner;
+use vm_owner::{Owner, Ungrouped};
 use vm_rule::words::{Pass, Words};
 
 /// Locks the page exclusively, where its word is the one expected: Unlocked, Marked or Evicted, below the last version.
-pub fn lock_exclusive<U: Owner, B: Block>(
+pub fn lock_exclusive<U: Ungrouped, B: Block>(
     words: &Words<U, B>,
     pass: &mut Pass<U>,
     p: u32,

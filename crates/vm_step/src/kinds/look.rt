@@ -9,12 +9,12 @@ use crate::layout::state_place;
 use crate::operation::load;
 use std::marker::Brand;
 use vm_block::Block;
-use vm_owner::Owner;
+use vm_owner::{Owner, Ungrouped};
 use vm_rule::words::{Pass, Words};
 
 /// The page's state word. A look that leaves the pass's open read of the page in place validates that read; what is said becomes an
 /// entry of the history there, and nowhere else.
-pub fn look<U: Owner, B: Block>(
+pub fn look<U: Ungrouped, B: Block>(
     words: &Words<U, B>,
     pass: &mut Pass<U>,
     p: u32,
@@ -33,7 +33,7 @@ pub fn look<U: Owner, B: Block>(
 }
 
 /// The page's state word, by a look that says nothing.
-pub fn look_silently<U: Owner, B: Block>(words: &Words<U, B>, pass: &mut Pass<U>, p: u32) -> u64
+pub fn look_silently<U: Ungrouped, B: Block>(words: &Words<U, B>, pass: &mut Pass<U>, p: u32) -> u64
     requires pass { MayStep words.now.table.shared.table_id pass.old }
     requires page { p < words.now.table.shared.key.pages }
     ensures goes { GoesOn words.now B.tells pass.old pass.new }

@@ -12,11 +12,11 @@ use crate::took::{Took, answer};
 use std::marker::Brand;
 use vm_block::Block;
 use vm_event::StateWord;
-use vm_owner::Owner;
+use vm_owner::{Owner, Ungrouped};
 use vm_rule::words::{Pass, Words};
 
 /// Marks the page, where its word is the one expected: Unlocked.
-pub fn mark<U: Owner, B: Block>(
+pub fn mark<U: Ungrouped, B: Block>(
     words: &Words<U, B>,
     pass: &mut Pass<U>,
     p: u32,
@@ -38,7 +38,7 @@ pub fn mark<U: Owner, B: Block>(
 }
 
 /// Takes the page's mark away, where its word is the one expected: Marked.
-pub fn unmark<U: Owner, B: Block>(
+pub fn unmark<U: Ungrouped, B: Block>(
     words: &Words<U, B>,
     pass: &mut Pass<U>,
     p: u32,

@@ -10,12 +10,12 @@ use crate::operation::store;
 use std::marker::Brand;
 use vm_block::Block;
 use vm_event::StateWord;
-use vm_owner::Owner;
+use vm_owner::{Owner, Ungrouped};
 use vm_rule::words::{Pass, Words};
 
 /// Releases the page, which is locked at `version`, as Unlocked at the next version: its draft is its last words then. As the first of a
 /// group it makes the drafts of the others, `rest`, logical too; these are released later, one by one. What is said becomes an entry.
-pub fn release<U: Owner, B: Block>(
+pub fn release<U: Ungrouped, B: Block>(
     words: &Words<U, B>,
     pass: &mut Pass<U>,
     p: u32,
@@ -37,7 +37,7 @@ pub fn release<U: Owner, B: Block>(
 }
 
 /// Releases a page alone, whose words have not changed and which is owed to nobody, and says nothing.
-pub fn release_silently<U: Owner, B: Block>(
+pub fn release_silently<U: Ungrouped, B: Block>(
     words: &Words<U, B>,
     pass: &mut Pass<U>,
     p: u32,
@@ -56,7 +56,7 @@ pub fn release_silently<U: Owner, B: Block>(
 }
 
 /// Releases a page as Evicted at its next version, which the pass has locked exclusively and which is not resident.
-pub fn release_evicted<U: Owner, B: Block>(
+pub fn release_evicted<U: Ungrouped, B: Block>(
     words: &Words<U, B>,
     pass: &mut Pass<U>,
     p: u32,
@@ -76,7 +76,12 @@ pub fn release_evicted<U: Owner, B: Block>(
 }
 
 /// Releases a page alone at its next version, which the pass has locked exclusively, to one share of the pass. Nothing is said.
-pub fn downgrade<U: Owner, B: Block>(words: &Words<U, B>, pass: &mut Pass<U>, p: u32, version: u64)
+pub fn downgrade<U: Ungrouped, B: Block>(
+    words: &Words<U, B>,
+    pass: &mut Pass<U>,
+    p: u32,
+    version: u64,
+)
     requires pass { MayStep words.now.table.shared.table_id pass.old }
     requires page { p < words.now.table.shared.key.pages }
     requires below { version < MAX_VERSION }

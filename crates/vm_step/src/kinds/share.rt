@@ -11,12 +11,12 @@ use crate::state_words::{SHARE, shared_word};
 use crate::took::{Took, answer};
 use std::marker::Brand;
 use vm_block::Block;
-use vm_owner::Owner;
+use vm_owner::{Owner, Ungrouped};
 use vm_rule::words::{Pass, Words};
 
 /// Takes one share of the page, where its word is the one expected: with room for a share, or Marked. What is said becomes an entry of the
 /// history there, and nowhere else: this page, with others of which the pass has shares, has to prove it.
-pub fn lock_shared<U: Owner, B: Block>(
+pub fn lock_shared<U: Ungrouped, B: Block>(
     words: &Words<U, B>,
     pass: &mut Pass<U>,
     p: u32,
@@ -48,7 +48,7 @@ pub fn lock_shared<U: Owner, B: Block>(
 }
 
 /// Takes one share of the page in the same way, and says nothing.
-pub fn lock_shared_silently<U: Owner, B: Block>(
+pub fn lock_shared_silently<U: Ungrouped, B: Block>(
     words: &Words<U, B>,
     pass: &mut Pass<U>,
     p: u32,
@@ -71,7 +71,7 @@ pub fn lock_shared_silently<U: Owner, B: Block>(
 }
 
 /// Gives one share of the page up, and answers the word before.
-pub fn unlock_shared<U: Owner, B: Block>(words: &Words<U, B>, pass: &mut Pass<U>, p: u32) -> u64
+pub fn unlock_shared<U: Ungrouped, B: Block>(words: &Words<U, B>, pass: &mut Pass<U>, p: u32) -> u64
     requires pass { MayStep words.now.table.shared.table_id pass.old }
     requires page { p < words.now.table.shared.key.pages }
     requires legal { MayUnshare (view pass.old) p }

@@ -12,11 +12,11 @@ use crate::took::{Took, answer};
 use std::marker::Brand;
 use vm_block::Block;
 use vm_event::StateWord;
-use vm_owner::Owner;
+use vm_owner::{Owner, Ungrouped};
 use vm_rule::words::{Pass, Words};
 
 /// Locks the page for write-back, where its word is the one expected: Marked. The pass has its one share.
-pub fn lock_write_back<U: Owner, B: Block>(
+pub fn lock_write_back<U: Ungrouped, B: Block>(
     words: &Words<U, B>,
     pass: &mut Pass<U>,
     p: u32,
@@ -38,7 +38,7 @@ pub fn lock_write_back<U: Owner, B: Block>(
 }
 
 /// Locks a page exclusively that the pass has under write-back, where its word is the one expected: one share, below the last version.
-pub fn upgrade<U: Owner, B: Block>(
+pub fn upgrade<U: Ungrouped, B: Block>(
     words: &Words<U, B>,
     pass: &mut Pass<U>,
     p: u32,

@@ -25,14 +25,20 @@ start-requires g c =
         (
           eq-eqb 512 512 refl,
           (
-            c.requires.pages.0,
+            tt,
             (
-              has-started bytes g.B.Block.tells _ before _ _ _ _ _ may (length-mapped g.B.Block.stored c.args.blocks.items)
-                  c.requires.version c.requires.frames.0 c.requires.frames.1
-                  (subst (λ n. n ≤ 65536) c.requires.pages.0 c.requires.pages.1),
+              refl,
               (
-                claimed-free _ _ _ _ may.free_pages,
-                λ told. begins-held plain_said bytes bytes_is_layout g.B.Block.tells _ before _ _ may told,
+                c.requires.pages.0,
+                (
+                  has-started bytes g.B.Block.tells _ before _ _ _ _ _ may (length-mapped g.B.Block.stored c.args.blocks.items)
+                      c.requires.version c.requires.frames.0 c.requires.frames.1
+                      (subst (λ n. n ≤ 65536) c.requires.pages.0 c.requires.pages.1),
+                  (
+                    claimed-free _ _ _ _ may.free_pages,
+                    λ told. begins-held plain_said bytes bytes_is_layout g.B.Block.tells _ before _ _ may told,
+                  ),
+                ),
               ),
             ),
           ),

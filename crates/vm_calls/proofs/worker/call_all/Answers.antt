@@ -1,12 +1,12 @@
-use Rattle.std.proofs.Common.{[], ◌++◌, ◌+◌, ◌<◌, ◌∙◌, ◌∷◌, ◌≡◌, arith, drop, get_or, length, List, refl, subst}
+use Rattle.std.proofs.Common.{[], ◌++◌, ◌+◌, ◌<◌, ◌∙◌, ◌∷◌, ◌≡◌, drop, get_or, length, List, refl, subst}
 use Rattle.std.proofs.lemmas.List.{drop_more, take_more}
-use Rattle.vm_map.specs.{declared.call.Call.Call, History.IsAskable}
+use Rattle.vm_map.specs.{declared.call.Call.Call}
 use Rattle.vm_map.specs.declared.call.Call.TheVariants.{Get}
 use Rattle.vm_step.specs.Prelude.{view}
 use Rattle.vm_tree_range.proofs.from_vm_tree_read.Losing.{loses-same, loses-then}
-use Rattle.vm_calls.proofs.{Chain.calls-snoc, Lists.all-at}
+use Rattle.vm_calls.proofs.{Chain.calls-snoc}
 use Rattle.vm_calls.specs.{Kept.IsRoomFor, Spans.HasSpans, TreeCalls.word_calls}
-use Rattle.vm_calls.proofs.{Memory.span-now, Memory.spans-after, Shortening.room-after, Shortening.room-now}
+use Rattle.vm_calls.proofs.{Memory.spans-after, Shortening.room-after, Shortening.room-now}
 use Rattle.vm_calls.proofs.worker.call_all.Goals as goal
 
 pub calls-preserved : goal.calls-preserved
@@ -74,33 +74,3 @@ keep-requires-clause-spans g c =
     (subst (λ (l : List Call). IsRoomFor l (g.A.Answers.room c.calls.worker.answers))
     (drop_more c.args.calls.now c.calls.call-index (Get 0) c.calls-test.true) c.calls.invariant.room)
     c.answer-answer.ensures.call).2
-
-pub answer-answer-requires : goal.answer-answer-requires
-answer-answer-requires g c =
-    let inv = c.calls.invariant in
-    let some =
-    span-now g.row.N (get_or c.args.calls.now c.calls.call-index (Get 0))
-    (drop (c.calls.call-index + 1) c.args.calls.now) c.calls.worker.memory.items
-    (subst (λ (l : List Call). HasSpans g.row.N l c.calls.worker.memory.items)
-    (drop_more c.args.calls.now c.calls.call-index (Get 0) c.calls-test.true) inv.spans) in (
-      omega arith,
-      (
-        omega arith,
-        (
-          inv.work.ready,
-          (
-            inv.work.home,
-            (
-              inv.work.frames,
-              (
-                inv.work.pages,
-                (
-                  all-at IsAskable c.args.calls.now c.calls.call-index (Get 0) c.requires.askable c.calls-test.true,
-                  (some, inv.spans.empty),
-                ),
-              ),
-            ),
-          ),
-        ),
-      ),
-    )

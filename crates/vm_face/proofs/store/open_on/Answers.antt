@@ -21,14 +21,20 @@ start-requires g c =
         (
           eq-eqb g.row.N g.row.N refl,
           (
-            c.requires.pages.0,
+            tt,
             (
-              has-started (fixed g.row.N) g.B.Block.tells _ before _ _ _ _ _ may (length-mapped g.B.Block.stored c.args.blocks.items)
-                  c.requires.version c.requires.frames.0 c.requires.frames.1
-                  (subst (λ n. n ≤ 65536) c.requires.pages.0 c.requires.pages.1),
+              refl,
               (
-                claimed-free _ _ _ _ may.free_pages,
-                λ told. begins-held as_said (fixed g.row.N) (sized_layout g.row.N g.S.OfSize.is_size) g.B.Block.tells _ before _ _ may told,
+                c.requires.pages.0,
+                (
+                  has-started (fixed g.row.N) g.B.Block.tells _ before _ _ _ _ _ may (length-mapped g.B.Block.stored c.args.blocks.items)
+                      c.requires.version c.requires.frames.0 c.requires.frames.1
+                      (subst (λ n. n ≤ 65536) c.requires.pages.0 c.requires.pages.1),
+                  (
+                    claimed-free _ _ _ _ may.free_pages,
+                    λ told. begins-held as_said (fixed g.row.N) (sized_layout g.row.N g.S.OfSize.is_size) g.B.Block.tells _ before _ _ may told,
+                  ),
+                ),
               ),
             ),
           ),

@@ -70,7 +70,7 @@ pub returns-clause-word : goal.returns-clause-word
 returns-clause-word g c brought =
     let blocks : List Stored = map g.B.Block.stored c.args.blocks.items in
     let first : View g.row.U-Said.Denot =
-    begun (unborn (started_shape g.row.N g.B.Block.tells c.args.shape.first_version c.args.shape.next []
+    begun (unborn (started_shape g.row.N g.B.Block.tells c.args.shape.first_version c.args.shape.next [] []
     c.args.shape.frames blocks)) in
     let v = view c.in_ok-pool.field-0.pass in
     let asked = c.in_ok-pool.ensures.asked in

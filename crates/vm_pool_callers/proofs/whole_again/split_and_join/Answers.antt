@@ -12,7 +12,7 @@ start-requires g c = (
     c.requires.sized,
     (
       c.requires.takes,
-      (c.requires.pages, (c.requires.fits, ((λ p e. absurd (false≢true e)), c.requires.begins))),
+      (tt, (g.met.U.Ungrouped.takes_none, (c.requires.pages, (c.requires.fits, ((λ p e. absurd (false≢true e)), c.requires.begins))))),
     ),
   ),
 )

@@ -58,7 +58,7 @@ returns-clause-reply g c meta root =
     let opened = c.in_ok-pool.field-0 in
     let asked = subst (λ (t : Bool).
     HasAskedFirst 0 (begun (unborn
-    (started_shape g.row.N t shape.first_version shape.next [] shape.frames blocks))) opened.iface.frames
+    (started_shape g.row.N t shape.first_version shape.next [] [] shape.frames blocks))) opened.iface.frames
     (view opened.pass) opened.answer) c.requires.tells
     c.in_ok-pool.ensures.asked in
     let get = c.try_get-reply.ensures in

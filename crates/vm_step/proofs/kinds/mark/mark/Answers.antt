@@ -5,4 +5,5 @@ use Rattle.vm_step.proofs.steps.Mark.{mark-allows}
 pub compare_exchange-requires-clause-allows : goal.compare_exchange-requires-clause-allows
 compare_exchange-requires-clause-allows g c = mark-allows _ _ _ _ _ _ _ _ _ c.args.p c.args.expects _
     c.args.pass.now.live c.requires.pass.1 c.requires.page c.requires.legal c.word_with-new.ensures
-    c.state_place-at.ensures.place (none-grouped _ c.args.words.now.alone c.args.p)
+    c.state_place-at.ensures.place (none-grouped _ g.met.U.Ungrouped.ungrouped _ _ c.args.words.now.groups.takes
+    c.args.words.now.grouped c.args.p)

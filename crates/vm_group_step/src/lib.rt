@@ -1,0 +1,16 @@
+//! A call for each kind of step on the state word of a page group. It is one atomic operation on the word of the group's first page, by which each
+//! page of the group makes the step, one behind another: what it tells is what each of these tells (`InTurn`). A page of no group is a group by
+//! itself here. The steps at one page stand in `vm_step`, over whose operations these are.
+#![tactic(auto)]
+
+mod lock;
+mod look;
+mod mark;
+mod release;
+mod share;
+
+pub use lock::{lock_group, lock_group_write_back, upgrade_group};
+pub use look::{look_group, look_group_saying};
+pub use mark::{mark_group, unmark_group};
+pub use release::{release_group, release_group_evicted};
+pub use share::{share_group, unshare_group};
