@@ -1,4 +1,5 @@
--- What a step on a group's word says of each of the group's pages: each has made its own step, between which the others changed nothing of it.
+-- What a step on a group's word says of each of the group's pages: each has made its own step, between which the
+-- others changed nothing of it.
 use Rattle.std.proofs.lemmas.Bool.{cases_eq, false≢true, ne_eqb}
 use Rattle.vm_owner.specs.Numbers.{AreApart}
 use Rattle.vm_rule.specs.declared.view.View.{View}

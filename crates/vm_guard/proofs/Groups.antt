@@ -3,7 +3,7 @@ use Rattle.std.specs.Prelude.{◌&&◌}
 use Rattle.vm_owner.proofs.NumberLemmas.{has-without_same}
 use Rattle.vm_page.specs.Pages.{all_zero}
 use Rattle.vm_rule.specs.Releases.{freed_by, numbers_left}
-use Rattle.vm_guard.proofs.Prelude.{[], ap, append-none, AreApart, AreGivenUp, Bool, cases_eq, Change, cond-false}
+use Rattle.vm_guard.proofs.Prelude.{[], ap, append-none, AreApart, arith, AreGivenUp, Bool, cases_eq, Change, cond-false}
 use Rattle.vm_guard.proofs.Prelude.{cond-true, draft_of, Each, each-map, Entry, eq-eqb, eqb, ExclusiveGuard, false}
 use Rattle.vm_guard.proofs.Prelude.{false≢true, GuardsHeld, has, has-both, has-left_of, has-without_other, Held}
 use Rattle.vm_guard.proofs.Prelude.{held_at, holds-still, if◌then◌else◌, inl, inr, IsBeside, IsClaimed, IsDue}
@@ -100,7 +100,7 @@ module _ {X : Type 0} where
       → length (pids_of gs) ≤ 3
       → IsFirst may_release g.pid (pids_of gs) said v
   first-of may_release g gs said v may few =
-      record { members = members-of v (g ∷ gs) may.held may.claimed; apart = may.apart; few = few; owner = may.owner }
+      record { members = members-of v (g ∷ gs) may.held may.claimed; apart = may.apart; few = omega (arith, few); owner = may.owner }
 
   pub later-may : (may_release : Start → List ℕ → List Change → List (Entry X) → Type 0) (p version : ℕ) (v : View X)
       → IsDue p version v → MayGiveUp may_release p version [] None v

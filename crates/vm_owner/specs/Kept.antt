@@ -90,12 +90,12 @@ IsTurn history [] = Unit {0}
 IsTurn history (e ∷ es) = (e.count ≡ entries_under e.number history + 1) × (es ≡ [])
 
 module _ {S : Type 0} where
-  -- The changes of a pass to which the pages `due` are owed fit what stands: one to four pages, each another one
+  -- The changes of a pass to which the pages `due` are owed fit what stands: one to 32 pages, each another one
   pub record Fits (kept : Kept S) (due : List ℕ) (changes : List Change) : Type 0 where
     pub agrees : Agrees kept.pages changes
     pub apart : AreApart (changed_pages changes)
     pub sized : AreSized changes
-    pub few : length changes ≤ 4
+    pub few : length changes ≤ 32
     pub owed : (p : ℕ) → has p due ≡ true → has p kept.owed ≡ true
 
   -- after pages were released together, at the group's first release

@@ -1,4 +1,5 @@
--- The world after an event on a state word, where each page is its own head: one page is written. So a lost exchange leaves the world.
+-- The world after an event on a state word, where each page is its own head: one page is written. So a lost exchange
+-- leaves the world.
 use Rattle.vm_event.specs.declared.event.PageAct.{PageAct}
 use Rattle.vm_event.specs.declared.event.PageAct.TheVariants as acts
 use Rattle.vm_event.specs.{History.release_history}

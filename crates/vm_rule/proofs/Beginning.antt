@@ -1,4 +1,5 @@
--- The first step of the first pass: a load of the first state word, after which the pass lives and knows how the table began.
+-- The first step of the first pass: a load of the first state word, after which the pass lives and knows how the
+-- table began.
 use mathlib.Core.Option as maybe
 use Rattle.atomic_table.specs.Table.{keeps as stays}
 use Rattle.vm_rule.specs.declared.view.WordPlace.TheVariants as places

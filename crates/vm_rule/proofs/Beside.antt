@@ -1,4 +1,5 @@
--- Beside a pass with all parts every other has none, so it holds nothing: a page that such a pass has not locked is not locked.
+-- Beside a pass with all parts every other has none, so it holds nothing: a page that such a pass has not locked is
+-- not locked.
 use Rattle.atomic_table.proofs.Lists.{at_index}
 use Rattle.vm_rule.proofs.{Entries.not-whole, Found.seat-here}
 use Rattle.vm_rule.proofs.Prelude.{[], ap, arith, Bool, cases_Bool, cases_eq, cases_lt, core_shown, eq-eqb, EVICTED}

@@ -1,4 +1,5 @@
--- What a step tells of the lists, the table and the log; and the step that changes nothing of the core and of its own view but these.
+-- What a step tells of the lists, the table and the log; and the step that changes nothing of the core and of its own
+-- view but these.
 use mathlib.Core.Option as maybe
 use Rattle.vm_rule.proofs.{Entries.append-none, Sound.is-sound, Views.any-same, Views.at-bound}
 use Rattle.vm_rule.proofs.Adding.{adds_more, after_more, after_step, became, became_more, Shows, shows-more, ShowsMore}

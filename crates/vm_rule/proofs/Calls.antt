@@ -11,7 +11,8 @@ use Rattle.vm_rule.proofs.Prelude.{written-keeps, ℕ, ⊎_elim, ◌∙◌, ◌�
 abbrev pub called : Page → ℕ → List ℕ → Page
 called r count block = record r { count = count; block = block }
 
--- of the page: its block has the words that it had, or those of its frame; its count stayed, or one fault more was counted
+-- of the page: its block has the words that it had, or those of its frame; its count stayed, or one fault more was
+-- counted
 pub record IsCalled (tells : Bool) (words : ℕ → List ℕ) (r : Page) (count : ℕ) (block : List ℕ) : Type 0 where
   pub contents : tells ≡ true → (block ≡ r.block) ⊎ (IsSome r.trans × (block ≡ block_after words r.trans r.block))
   pub counts : (count ≡ r.count) ⊎ (count ≡ count_more r.count)

@@ -1,7 +1,8 @@
 -- A step of one pass on one word of the table: the core that is read changes as by the event.
 use Rattle.vm_rule.specs.declared.view.WordPlace.TheVariants as places
 use Rattle.vm_rule.specs.Reading.{numbers_held}
-use Rattle.vm_rule.proofs.{Parts.frame-written, Parts.words-written, Views.at-there, Views.block-same, Views.field-still, Views.views-set}
+use Rattle.vm_rule.proofs.{Parts.frame-written, Parts.words-written, Views.at-there}
+use Rattle.vm_rule.proofs.{Views.block-same, Views.field-still, Views.views-set}
 use Rattle.vm_rule.proofs.Pages.{page-changed, page-in, put-column}
 use Rattle.vm_rule.proofs.Prelude.{refl, [], ap, at, block_of, Bool, core_from, core_shown, frames_held, fun_ext}
 use Rattle.vm_rule.proofs.Prelude.{get_elem?, has, index_of, length, length-set, List, loads_at, loads_of, mapping_of}

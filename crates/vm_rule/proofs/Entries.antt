@@ -28,7 +28,8 @@ module _ {X : Type 0} where
       (λ f. rw f (entries-both ns es b)) (cases_Bool (has e.number ns))
 
   -- numbers that have no entry have none in either part
-  pub none-each : (ns : List ℕ) (m r : List (Entry X)) → entries_by ns (m ++ r) ≡ [] → (entries_by ns m ≡ []) × (entries_by ns r ≡ [])
+  pub none-each : (ns : List ℕ) (m r : List (Entry X)) → entries_by ns (m ++ r) ≡ []
+      → (entries_by ns m ≡ []) × (entries_by ns r ≡ [])
   none-each ns m r e = none-left (entries_by ns m) (entries_by ns r) (sym (entries-both ns m r) ∙ e)
 
   -- no number, no entry
@@ -57,7 +58,8 @@ module _ {X : Type 0} where
       rw out (entries-within ns ms xs within k.1)
 
   -- where neither numbers have an entry, both together have none
-  pub entries-union : (ns ms : List ℕ) (l : List (Entry X)) → entries_by ns l ≡ [] → entries_by ms l ≡ [] → entries_by (ns ++ ms) l ≡ []
+  pub entries-union : (ns ms : List ℕ) (l : List (Entry X)) → entries_by ns l ≡ [] → entries_by ms l ≡ []
+      → entries_by (ns ++ ms) l ≡ []
   entries-union ns ms [] e f = refl
   entries-union ns ms (x ∷ xs) e f =
       let k = none-first ns x xs e in
@@ -72,7 +74,8 @@ module _ {X : Type 0} where
       e ∙ sym (ap (entries_by ns) h.1 ∙ entries-both ns seen h.0
       ∙ ap (λ (l : List (Entry X)). entries_by ns seen ++ l) h.2 ∙ append-none (entries_by ns seen))
 
-  pub total-at : (f : View X → ℕ) (views : List (View X)) (j : ℕ) (u : View X) → get_elem? views j ≡ some u → f u ≤ total f views
+  pub total-at : (f : View X → ℕ) (views : List (View X)) (j : ℕ) (u : View X) → get_elem? views j ≡ some u
+      → f u ≤ total f views
   total-at f [] j u e = absurd (maybe.some-ne-none u (sym e))
   total-at f (x ∷ xs) zero u e = let same : f x ≡ f u = ap f (some-injective x u e) in omega arith
   total-at f (x ∷ xs) (suc j) u e = let h : f u ≤ total f xs = total-at f xs j u e in omega arith

@@ -1,6 +1,7 @@
 -- What the rule says of who holds a page, of the blocks, and of the members still to be released.
 use mathlib.Core.Option as maybe
-use Rattle.vm_rule.proofs.{Found.seat-here, Parts.upd-is, Views.at-bound, Views.block-same, Views.out-same, Views.set-each}
+use Rattle.vm_rule.proofs.{Found.seat-here, Parts.upd-is, Views.at-bound}
+use Rattle.vm_rule.proofs.{Views.block-same, Views.out-same, Views.set-each}
 use Rattle.vm_rule.proofs.Prelude.{[], any, ap, arith, at, BlocksFit, Bool, cases_Bool, cases_eq, core_shown, false}
 use Rattle.vm_rule.proofs.Prelude.{false≢true, get_elem?, has, has-without_other, has-without_same, if◌then◌else◌}
 use Rattle.vm_rule.proofs.Prelude.{is_pending, Kept, length, List, LOCKED, locked-from_owner, LocksInv, may_call}

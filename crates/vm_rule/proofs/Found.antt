@@ -1,4 +1,5 @@
--- What the core that is read has at a place, in terms of the word that stands there, of the pass's view, and of the block.
+-- What the core that is read has at a place, in terms of the word that stands there, of the pass's view, and of the
+-- block.
 use Rattle.vm_page.proofs.Sizes.{room}
 use Rattle.vm_rule.specs.declared.view.WordPlace.TheVariants as places
 use Rattle.vm_rule.proofs.{ListFacts.at-listed, Pages.page-in, Pages.page-out, Views.at-there, WordFacts.word-made}
@@ -13,7 +14,8 @@ pub same-word : (words : List ℕ) (i : ℕ) → slice_set words i (slice_index 
 same-word words i = set-get_or words i 0
 
 -- the k-th word of a part, as a step finds it
-pub part-found : (base n : ℕ) (words : List ℕ) (k i : ℕ) → k < n → base + k ≡ i → part base n words k ≡ slice_index words i
+pub part-found : (base n : ℕ) (words : List ℕ) (k i : ℕ) → k < n → base + k ≡ i
+    → part base n words k ≡ slice_index words i
 unfolding part
 part-found base n words k i l e = rw (lt-ltb k n l) refl ∙ at-get 0 words (base + k) ∙ ap (slice_index words) e
 
@@ -93,10 +95,12 @@ module _ {X B : Type 0} (stored : B → Stored) (start : Origin) where
   bundle-here s g l = part-found (3 * start.pages + start.size * start.frames) (bundle_count start) s.words g
       (3 * start.pages + start.size * start.frames + g) l refl
 
-  pub next-here : (s : Table (Option B) (View X)) → (core_shown stored start s).next ≡ slice_index s.words (index_of start places.Next)
+  pub next-here : (s : Table (Option B) (View X))
+      → (core_shown stored start s).next ≡ slice_index s.words (index_of start places.Next)
   next-here s = at-get 0 s.words (index_of start places.Next)
 
-  pub hand-here : (s : Table (Option B) (View X)) → (core_shown stored start s).hand ≡ slice_index s.words (index_of start places.Hand)
+  pub hand-here : (s : Table (Option B) (View X))
+      → (core_shown stored start s).hand ≡ slice_index s.words (index_of start places.Hand)
   hand-here s = at-get 0 s.words (index_of start places.Hand)
 
   -- a free-number word

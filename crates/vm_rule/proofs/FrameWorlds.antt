@@ -1,9 +1,10 @@
--- The world that is read after a step on a translation word, a fault word, a frame that a pass holds, a bundle word, the next word or the
--- hand: it is the world after the event.
+-- The world that is read after a step on a translation word, a fault word, a frame that a pass holds, a bundle word,
+-- the next word or the hand: it is the world after the event.
 use Rattle.std.proofs.Common.{eq-eqb, ne_eqb}
 use Rattle.vm_rule.specs.declared.view.WordPlace.TheVariants as places
 use Rattle.vm_rule.specs.declared.view.Release.{Release as Released}
-use Rattle.vm_rule.proofs.{Alone.worlds-same, Found.held-here, Parts.upd-is, Worlds.store-core, Worlds.stores-else, Worlds.wrote}
+use Rattle.vm_rule.proofs.{Alone.worlds-same, Found.held-here, Parts.upd-is}
+use Rattle.vm_rule.proofs.{Worlds.store-core, Worlds.stores-else, Worlds.wrote}
 use Rattle.vm_event.specs.declared.event.Event.TheVariants.{PGive, PTake}
 use Rattle.vm_rule.specs.Reading.{holdings, numbers_held}
 use Rattle.vm_rule.proofs.Views.{at-there}
@@ -20,7 +21,8 @@ use Rattle.vm_rule.proofs.Prelude.{Take, taken_by, true, upd, View, width, with_
 use Rattle.vm_rule.proofs.Prelude.{world_after, world_of, ℕ, ◌+◌, ◌<◌, ◌∙◌, ◌≡◌, ◌≢◌}
 
 -- a frame that an actor holds stands in no page
-pub stands-nowhere : (w : World) (f a q : ℕ) → Inv w → w.core.held a f ≡ true → stands_in (w.core.pages q).trans f ≡ false
+pub stands-nowhere : (w : World) (f a q : ℕ) → Inv w → w.core.held a f ≡ true
+    → stands_in (w.core.pages q).trans f ≡ false
 stands-nowhere w f a q inv e =
     (inv.frames f).mapped q ∙ ap (λ y. at_page y q) (held-place (inv.place f) a (sym ((inv.frames f).holds a) ∙ e))
 

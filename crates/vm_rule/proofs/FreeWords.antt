@@ -51,7 +51,8 @@ or-nothing true = refl
 or-nothing false = refl
 
 -- those of the pages are set beside those that were
-free-bits : (words : ℕ → ℕ) (free : List ℕ) (p : ℕ) → has_free_bit (with_free words free) p ≡ (has p free || has_free_bit words p)
+free-bits : (words : ℕ → ℕ) (free : List ℕ) (p : ℕ)
+    → has_free_bit (with_free words free) p ≡ (has p free || has_free_bit words p)
 unfolding with_free
 free-bits words [] p = refl
 free-bits words (q ∷ qs) p =
@@ -88,7 +89,8 @@ set-listed before n f i k x e l =
 -- the bit of a page more is set, in words that stand behind a list
 pub free-pushed : (before items after free : List ℕ) (n i p x : ℕ) → items ≡ before ++ listed n (free_words free)
     → i ≡ length before + p / 64 → p / 64 < n → at 0 items i ≡ x
-    → after ≡ slice_set items i (bit_or x (1 * 2 ^ (p % 64) % 2 ^ 64)) → after ≡ before ++ listed n (free_words (free ++ p ∷ []))
+    → after ≡ slice_set items i (bit_or x (1 * 2 ^ (p % 64) % 2 ^ 64))
+    → after ≡ before ++ listed n (free_words (free ++ p ∷ []))
 free-pushed before items after free n i p x was place l found is =
     let there : at 0 (before ++ listed n (free_words free)) i ≡ free_words free (p / 64) =
     at-right 0 before (listed n (free_words free)) i (p / 64) place ∙ at-listed 0 n (free_words free) (p / 64) l in
@@ -100,6 +102,7 @@ free-pushed before items after free n i p x was place l found is =
     ((λ j. upd (free_words free) (p / 64) (bit_or (word j) (single-bit (p % 64) (omega arith) j))) ∙ sym (with_free-more (λ g. 0) free p))
 
 -- no page yet
-pub free-none : (before items : List ℕ) (n : ℕ) → items ≡ before ++ listed n (λ g. 0) → items ≡ before ++ listed n (free_words [])
+pub free-none : (before items : List ℕ) (n : ℕ) → items ≡ before ++ listed n (λ g. 0)
+    → items ≡ before ++ listed n (free_words [])
 unfolding with_free
 free-none before items n e = e

@@ -1,4 +1,5 @@
--- A core in which open reads are closed, frames go from one actor to another, and actors come that have nothing: it meets the invariant.
+-- A core in which open reads are closed, frames go from one actor to another, and actors come that have nothing: it
+-- meets the invariant.
 use Rattle.std.proofs.Common.{eq-eqb, ne_eqb}
 use Rattle.vm_event.specs.{Inv.FramePlace, Prelude.StandsUnder}
 use Rattle.vm_event.proofs.Alone.{heads-alone}

@@ -1,12 +1,14 @@
 -- A group's state word is set: then each page of the group reads it, and no other page reads another word than before.
-use Rattle.std.proofs.Common.{[], ⊎_elim, ◌+◌, ◌<◌, ◌∙◌, ◌∷◌, ◌≡◌, ◌≢◌, ◌≤◌, ◌⊎◌, ◌||◌, ap, arith, Bool, eq-eqb, eqb, false, inl, inr}
+use Rattle.std.proofs.Common.{[], ⊎_elim, ◌+◌, ◌<◌, ◌∙◌, ◌∷◌, ◌≡◌, ◌≢◌, ◌≤◌, ◌⊎◌}
+use Rattle.std.proofs.Common.{◌||◌, ap, arith, Bool, eq-eqb, eqb, false, inl, inr}
 use Rattle.std.proofs.Common.{length, List, refl, subst, suc, sym, true, zero, ℕ}
 use Rattle.std.proofs.lemmas.Bool.{cases_Bool, cases_eq, cases_lt, cond-false, cond-true, eqb-true, false≢true, ne_eqb}
 use Rattle.std.proofs.lemmas.List.{ext_get_or, get_or-set_other, get_or-set_same}
 use Rattle.std.specs.Prelude.{slice_index, slice_set}
 use Rattle.vm_event.specs.Groups.{in_group}
 use Rattle.vm_event.specs.Prelude.{GroupsFit, head_in}
-use Rattle.vm_event.proofs.Groups.{group-outside, group-size, head-among, head-apart, inside-group, of-group, outside-group}
+use Rattle.vm_event.proofs.Groups.{group-outside, group-size, head-among, head-apart}
+use Rattle.vm_event.proofs.Groups.{inside-group, of-group, outside-group}
 use Rattle.vm_owner.specs.Numbers.{AreApart, has}
 use Rattle.vm_rule.proofs.Prelude.{length-set}
 use Rattle.vm_rule.proofs.Spreading.{length-spread, spread-reads}

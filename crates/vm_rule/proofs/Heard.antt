@@ -1,5 +1,5 @@
--- What a step adds to the lists: an entry is the pass's own, with the next count of one of its numbers, which no other pass has; the
--- releases have the next versions.
+-- What a step adds to the lists: an entry is the pass's own, with the next count of one of its numbers, which no
+-- other pass has; the releases have the next versions.
 use Rattle.vm_rule.proofs.Entries.{append-none, total-at, total-two}
 use Rattle.vm_rule.proofs.Prelude.{[], ap, append_assoc, AreCounted, AreNext, arith, cases_Bool, cases_eq, cases_lt}
 use Rattle.vm_rule.proofs.Prelude.{counted-more, Each, entries_by, entries_under, Entry, entry_of, eq-eqb, false}
@@ -56,7 +56,8 @@ module _ {X : Type 0} where
       omega arith
 
   -- the entries of a number are counted among those of a pass that has it
-  pub calls-by : (n : ℕ) (ns : List ℕ) (h : List (Entry X)) → has n ns ≡ true → entries_under n (entries_by ns h) ≡ entries_under n h
+  pub calls-by : (n : ℕ) (ns : List ℕ) (h : List (Entry X)) → has n ns ≡ true
+      → entries_under n (entries_by ns h) ≡ entries_under n h
   calls-by n ns [] e = refl
   calls-by n ns (x ∷ xs) e =
       ⊎_elim

@@ -8,7 +8,8 @@ use Rattle.vm_rule.proofs.Numbered.{hands-set, hands-there, numbers-as}
 use Rattle.vm_rule.specs.Rule.{hands_of}
 use Rattle.vm_rule.proofs.Facts.{any-here, any-true}
 use Rattle.std.proofs.lemmas.Bool.{false_from_ne_true, or_cases}
-use Rattle.vm_rule.proofs.{Bundled.with_contents-at, Facts.either-way, Gathering.ReadsLess, Heard.each-both, Known.known-with}
+use Rattle.vm_rule.proofs.{Bundled.with_contents-at, Facts.either-way, Gathering.ReadsLess}
+use Rattle.vm_rule.proofs.{Heard.each-both, Known.known-with}
 use Rattle.vm_rule.proofs.Entries.{entries-union, has-joined, none-each, none-left}
 use Rattle.vm_rule.proofs.Prelude.{[], any, ap, arith, at, at_set, Bool, cases_Bool, cases_eq, cases_lt, entries_by}
 use Rattle.vm_rule.proofs.Prelude.{Entry, false, false≢true, get_elem?, has, Hears, HoldsNoPage, if◌then◌else◌, inl}
@@ -18,7 +19,8 @@ use Rattle.vm_rule.proofs.Prelude.{Origin, owns, put_at, refl, Ruled, Seat, seat
 use Rattle.vm_rule.proofs.Prelude.{some, some-injective, spent, Start, Stored, subst, sym, Table, times_noted, total}
 use Rattle.vm_rule.proofs.Prelude.{true, true≢false, upd-other, View, world_of, ℕ, ⊎_elim, ◌++◌, ◌+◌, ◌<◌, ◌||◌, ◌∙◌}
 use Rattle.vm_rule.proofs.Prelude.{◌∷◌, ◌≡◌, ◌≢◌, ◌≤◌, ◌⊎◌}
-use Rattle.vm_rule.proofs.Resettling.{fit-now, fit-spent, HasSome, IsFit, KnowsHistory, KnowsReleases, replaced-less, Resettles, seen-all}
+use Rattle.vm_rule.proofs.Resettling.{fit-now, fit-spent, HasSome, IsFit, KnowsHistory}
+use Rattle.vm_rule.proofs.Resettling.{KnowsReleases, replaced-less, Resettles, seen-all}
 use Rattle.vm_rule.proofs.Resettling.{settled-ruled, Settles}
 use Rattle.vm_rule.proofs.Views.{any-same, at-bound, at-there, field-still, out-same, total-set, views-set}
 pub use Rattle.vm_rule.proofs.Heard.{times-joined}
@@ -133,7 +135,8 @@ follows (x ∷ a) (y ∷ b) r q e h = follows a b r q (cc) (omega arith)
 
 module _ {X : Type 0} where
   -- who heard the shorter history has no entry behind the longer
-  hears-longer : (h a b : List (Entry X)) (ns ms : List ℕ) (f : Hears h ns a) → Hears h ms b → length b ≤ length a → entries_by ms f.0 ≡ []
+  hears-longer : (h a b : List (Entry X)) (ns ms : List ℕ) (f : Hears h ns a) → Hears h ms b → length b ≤ length a
+      → entries_by ms f.0 ≡ []
   hears-longer h a b ns ms f g le =
       let m = follows a b f.0 g.0 (sym f.1 ∙ g.1) le in
       (none-each ms m.0 f.0 (ap (entries_by ms) (sym m.1) ∙ g.2)).1
@@ -162,7 +165,8 @@ module _ {X : Type 0} where
     told-within true k e = has-left k v.used w.used e
     told-within false k e = has-right k v.used w.used e
 
-    longest-joined : (b : Bool) → (v.seen ≡ h) ⊎ (w.seen ≡ h) → ((if b then w.seen else v.seen) ≡ h) ⊎ ((if b then v.seen else w.seen) ≡ h)
+    longest-joined : (b : Bool) → (v.seen ≡ h) ⊎ (w.seen ≡ h)
+        → ((if b then w.seen else v.seen) ≡ h) ⊎ ((if b then v.seen else w.seen) ≡ h)
     longest-joined true (inl e) = inr e
     longest-joined true (inr e) = inl e
     longest-joined false e = e
@@ -174,7 +178,8 @@ module _ {X : Type 0} where
       → (f : ℕ) → has f (joined v w).frames ≡ true → put_at [] (joined v w).contents f ≡ words f
   gathered-contents v w words mine theirs f e = with_contents-at (put_at [] w.contents) w.frames v.contents f ∙ either (has f w.frames) refl
     where
-      either : (b : Bool) → has f w.frames ≡ b → (if b then put_at [] w.contents f else put_at [] v.contents f) ≡ words f
+      either : (b : Bool) → has f w.frames ≡ b
+          → (if b then put_at [] w.contents f else put_at [] v.contents f) ≡ words f
       either true t = theirs f t
       either false n = mine f (sym (has-joined f w.frames v.frames ∙ ap (λ b. b || has f v.frames) n) ∙ e)
 

@@ -1,6 +1,7 @@
 -- Runs one after another, and what a replay keeps.
 use Rattle.vm_core.specs.declared.playing.ReplayFault.TheVariants as faults
-use Rattle.vm_rule.proofs.{Runs.run-core, Runs.run-one, Runs.run-tells, Runs.run_law, Starts.core-start, Starts.start_law, Tells.told_law}
+use Rattle.vm_rule.proofs.{Runs.run-core, Runs.run-one, Runs.run-tells, Runs.run_law}
+use Rattle.vm_rule.proofs.{Starts.core-start, Starts.start_law, Tells.told_law}
 use Rattle.vm_rule.proofs.Prelude.{[], after_event, AllLegal, ap, begin, core_start, CoreStart, Err, Event}
 use Rattle.vm_rule.proofs.Prelude.{FaultsTold, FrameOnce, Inv, IsRunKept, IsStart, KeptFault, KeptFrom, List, refl}
 use Rattle.vm_rule.proofs.Prelude.{Replayed, ReplayFault, run, RunsTo, start, State, subst, sym, take, Told, true}

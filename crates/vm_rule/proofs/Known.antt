@@ -1,8 +1,10 @@
--- What a pass knows of pages stays true after an event of another pass; and so does what any pass knows of translations and ties.
+-- What a pass knows of pages stays true after an event of another pass; and so does what any pass knows of
+-- translations and ties.
 use Rattle.vm_event.specs.declared.event.Event.TheVariants.{Release}
 use Rattle.vm_rule.specs.declared.view.Release.{Release as Released}
 use Rattle.vm_event.proofs.Upd.{upd_over-other}
-use Rattle.vm_rule.proofs.{Entries.each-map, Facts.any-here, Facts.any-true, Prelude.◌≤◌, Views.at-bound, Were.were-moves}
+use Rattle.vm_rule.proofs.{Entries.each-map, Facts.any-here, Facts.any-true}
+use Rattle.vm_rule.proofs.{Prelude.◌≤◌, Views.at-bound, Were.were-moves}
 use Rattle.vm_rule.proofs.Prelude.{[], any, ap, arith, began_of, Bool, cases_eq, cases_lt, Did, Downgrade, Each}
 use Rattle.vm_rule.proofs.Prelude.{Entry, Event, EVICTED, false, false_from_ne_true, get_elem?, has, histories_after}
 use Rattle.vm_rule.proofs.Prelude.{History, IsLocking, KnowsPage, KnowsPages, last_in, Leaves, LeavesActor, Legal}
@@ -145,7 +147,8 @@ module _ {X : Type 0} where
 
   module _ (tied : Start → ℕ → List ℕ → ℕ → List ℕ → Type 0) (start : Origin) where
     -- what the pass j knows, after an event of the pass a
-    pub known-else : (w w' : World) (unreleased unreleased' : ℕ → Bool) (a j : ℕ) (u : View X) → Leaves a w w' → LeavesActor j w w'
+    pub known-else : (w w' : World) (unreleased unreleased' : ℕ → Bool) (a j : ℕ) (u : View X) → Leaves a w w'
+        → LeavesActor j w w'
         → ((p : ℕ) → p < w.core.shape.pages → (w.core.pages p).seats j ≡ seat_of u p)
         → ((p : ℕ) → w.core.shape.pages ≤ p → (w'.core.pages p ≡ w.core.pages p) × (w'.histories p ≡ w.histories p))
         → ((p : ℕ) → w.core.shape.pages ≤ p → (w.core.pages p).trans ≡ None)

@@ -23,7 +23,8 @@ pub at-past : {A : Type 0} (d : A) (xs : List A) (k : ℕ) → length xs ≤ k �
 unfolding at
 at-past d xs k l = get_or_past xs k d l
 
-pub at-map : {A B : Type 0} (f : A → B) (d : B) (e : A) (xs : List A) (k : ℕ) → k < length xs → at d (map f xs) k ≡ f (at e xs k)
+pub at-map : {A B : Type 0} (f : A → B) (d : B) (e : A) (xs : List A) (k : ℕ) → k < length xs
+    → at d (map f xs) k ≡ f (at e xs k)
 unfolding at
 at-map f d e xs k l = get_or-map f xs k e d l
 

@@ -1,4 +1,5 @@
--- A pass takes in another that only knows the two lists, and then takes over what it was told: the table meets the rule.
+-- A pass takes in another that only knows the two lists, and then takes over what it was told: the table meets the
+-- rule.
 use Rattle.vm_rule.specs.declared.view.WordPlace.TheVariants as places
 use Rattle.vm_rule.proofs.Numbered.{hands-still, numbers-as}
 use Rattle.vm_rule.proofs.{Found.next-here, Heard.each-both, Known.known-with, Sound.is-sound, Sound.never-falls}

@@ -4,7 +4,8 @@ use mathlib.Core.Option as maybe
 use mathlib.Core.Option.{some-injective}
 use Rattle.std.specs.Prelude.{map}
 use Rattle.vm_event.specs.Prelude.{has_free_bit}
-use Rattle.vm_numbers.specs.Hands.{after_first, after_later, all_zero, freed_of, Hands, IsNoOther, IsUsable, less, NumbersFit}
+use Rattle.vm_numbers.specs.Hands.{after_first, after_later, all_zero, freed_of, Hands}
+use Rattle.vm_numbers.specs.Hands.{IsNoOther, IsUsable, less, NumbersFit}
 use Rattle.vm_numbers.proofs.Steps.{first_keeps, later_keeps}
 use Rattle.vm_owner.proofs.NumberLemmas.{without-none}
 use Rattle.vm_rule.specs.Releases.{freed_by, released_view}
@@ -49,11 +50,13 @@ pub zeros-are : (n : ℕ) → all_zero (replicate n 0) ≡ true
 zeros-are zero = refl
 zeros-are (suc n) = zeros-are n
 
-pub logical-draft : (h : ℕ → History) (members : ℕ → Bool) (q : ℕ) → members q ≡ true → logical h members q ≡ (h q).draft
+pub logical-draft : (h : ℕ → History) (members : ℕ → Bool) (q : ℕ) → members q ≡ true
+    → logical h members q ≡ (h q).draft
 unfolding logical
 logical-draft h members q e = rw e refl
 
-logical-last : (h : ℕ → History) (members : ℕ → Bool) (q : ℕ) → members q ≡ false → logical h members q ≡ (h q).last.words
+logical-last : (h : ℕ → History) (members : ℕ → Bool) (q : ℕ) → members q ≡ false
+    → logical h members q ≡ (h q).last.words
 unfolding logical
 logical-last h members q e = rw e refl
 
@@ -112,7 +115,8 @@ module _ {X B : Type 0} (stored : B → Stored) (keeps : Start → Kept X → Ty
             (cases_Bool u.live))) (λ n. n) (cases_Bool (has q u.owed)),
       )
 
-  -- the group: the pages of it are the pass's, none is a member still to be released, and each is changed only where the pass may
+  -- the group: the pages of it are the pass's, none is a member still to be released, and each is changed only where
+  -- the pass may
   module _ (t : start.tells ≡ true) (p : ℕ) (rest : List ℕ) (said : Option X) (apart : has p rest ≡ false)
       (inside : (q : ℕ) → has q (p ∷ rest) ≡ true → q < start.pages) (owns : (q : ℕ) → has q (p ∷ rest) ≡ true
       → (seat_of v q).exclusive ≡ true)
@@ -178,7 +182,8 @@ module _ {X B : Type 0} (stored : B → Stored) (keeps : Start → Kept X → Ty
         still q a = any-same (λ y. has q y.pending) s.views id v w there
             (ap (has q) pending-is ∙ has-both q rest v.pending ∙ ap (λ b. b || has q v.pending) a)
 
-    logical-in : (q : ℕ) → has q (p ∷ rest) ≡ true → logical histories' (is_pending (slice_set s.views id w)) q ≡ draft_of v q
+    logical-in : (q : ℕ) → has q (p ∷ rest) ≡ true
+        → logical histories' (is_pending (slice_set s.views id w)) q ≡ draft_of v q
     logical-in q e =
         ⊎_elim
         (λ (a : has q rest ≡ true). logical-draft histories' (is_pending (slice_set s.views id w)) q

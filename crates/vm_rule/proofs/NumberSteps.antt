@@ -89,7 +89,8 @@ unset-bits words g mask small none =
         (cases_eq (bit_at mask i) 1)
 
 -- the page numbers after a take and after a give
-pub numbers-with : (g mask : ℕ) (l : List ℕ) (p : ℕ) → has p (frames_in g mask ++ l) ≡ (if in_mask g mask p then true else has p l)
+pub numbers-with : (g mask : ℕ) (l : List ℕ) (p : ℕ)
+    → has p (frames_in g mask ++ l) ≡ (if in_mask g mask p then true else has p l)
 numbers-with g mask l p = has-both p (frames_in g mask) l ∙ ap (λ b. b || has p l) (has-frames_in g mask p)
     ∙ either-way (in_mask g mask p) (has p l)
 
@@ -314,7 +315,8 @@ module _ {X B : Type 0} (stored : B → Stored) (keeps : Start → Kept X → Ty
           × (has_free_bit (upd c.spares g (bit_xor expects mask)) p ≡ false)
       was-set p t = ⊎_elim (λ k. (k.1, k.2)) (λ k. absurd (true≢false (sym t ∙ k.0))) (bits p)
 
-      still : (p : ℕ) → in_mask g mask p ≡ false → has_free_bit (upd c.spares g (bit_xor expects mask)) p ≡ has_free_bit c.spares p
+      still : (p : ℕ) → in_mask g mask p ≡ false
+          → has_free_bit (upd c.spares g (bit_xor expects mask)) p ≡ has_free_bit c.spares p
       still p n = ⊎_elim (λ k. absurd (true≢false (sym k.0 ∙ n))) (λ k. k.1) (bits p)
 
       is-written : taking.wrote ≡ Some (bit_xor expects mask)
@@ -415,7 +417,8 @@ module _ {X B : Type 0} (stored : B → Stored) (keeps : Start → Kept X → Ty
       now-set : (p : ℕ) → in_mask g mask p ≡ true → has_free_bit (upd c.spares g (bit_or found mask)) p ≡ true
       now-set p t = ⊎_elim (λ k. k.1) (λ k. absurd (true≢false (sym t ∙ k.0))) (given p)
 
-      as-before : (p : ℕ) → in_mask g mask p ≡ false → has_free_bit (upd c.spares g (bit_or found mask)) p ≡ has_free_bit c.spares p
+      as-before : (p : ℕ) → in_mask g mask p ≡ false
+          → has_free_bit (upd c.spares g (bit_or found mask)) p ≡ has_free_bit c.spares p
       as-before p n = ⊎_elim (λ k. absurd (true≢false (sym k.0 ∙ n))) (λ k. k.1) (given p)
 
       -- so its page, where it is a member still to be released, has logical words of zeros

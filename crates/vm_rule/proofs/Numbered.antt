@@ -29,7 +29,8 @@ module _ {X : Type 0} where
   hands-still (x ∷ xs) zero v w there e = ap (λ (h : Hands). h ∷ map hands_of xs) (e ∙ ap hands_of (sym (some-injective x v there)))
   hands-still (x ∷ xs) (suc id) v w there e = ap (λ (l : List Hands). hands_of x ∷ l) (hands-still xs id v w there e)
 
-  pub hands-snoc : (views : List (View X)) (w : View X) → map hands_of (views ++ w ∷ []) ≡ map hands_of views ++ hands_of w ∷ []
+  pub hands-snoc : (views : List (View X)) (w : View X)
+      → map hands_of (views ++ w ∷ []) ≡ map hands_of views ++ hands_of w ∷ []
   hands-snoc [] w = refl
   hands-snoc (x ∷ xs) w = ap (λ (l : List Hands). hands_of x ∷ l) (hands-snoc xs w)
 

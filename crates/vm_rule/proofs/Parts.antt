@@ -70,7 +70,8 @@ module _ (start : Origin) (words : List ℕ) (x k : ℕ) (wide : length words �
       (cases_lt j n))
 
   -- it is the i-th of the part
-  own : (base n i : ℕ) → i < n → k < length words → base + i ≡ k → part base n (slice_set words k x) ≡ upd (part base n words) i x
+  own : (base n i : ℕ) → i < n → k < length words → base + i ≡ k
+      → part base n (slice_set words k x) ≡ upd (part base n words) i x
   unfolding part
   own base n i l lt e =
       upd-is (part base n words) (part base n (slice_set words k x)) i x
@@ -207,7 +208,8 @@ unfolding listed
 listed-same zero f g e = refl
 listed-same (suc n) f g e = λ i. e 0 (omega arith) i ∷ listed-same n (λ k. f (suc k)) (λ k. g (suc k)) (λ k l. e (suc k) (omega arith)) i
 
-pub listed-upd : {A : Type 0} (n : ℕ) (f : ℕ → A) (k : ℕ) (x : A) → k < n → listed n (upd f k x) ≡ slice_set (listed n f) k x
+pub listed-upd : {A : Type 0} (n : ℕ) (f : ℕ → A) (k : ℕ) (x : A) → k < n
+    → listed n (upd f k x) ≡ slice_set (listed n f) k x
 unfolding listed
 listed-upd zero f k x l = absurd (omega arith)
 listed-upd (suc n) f zero x l = λ i. upd-same f 0 x i ∷ listed-same n (λ k. upd f 0 x (suc k)) (λ k. f (suc k))

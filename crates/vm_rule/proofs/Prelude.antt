@@ -1,6 +1,8 @@
--- What the proofs of this crate cite from the crates below and from its own specs, passed on from one place. Declares nothing.
+-- What the proofs of this crate cite from the crates below and from its own specs, passed on from one place. Declares
+-- nothing.
 pub use Rattle.std.specs.{Int.bit_at, Prelude.bit_or, Prelude.bit_xor}
-pub use Rattle.std.proofs.{lemmas.Bool.Decides.nat_tests, lemmas.List.FromFn.length-map-range_with_len, Math.Bool.or-true}
+pub use Rattle.std.proofs.{lemmas.Bool.Decides.nat_tests, lemmas.List.FromFn.length-map-range_with_len}
+pub use Rattle.std.proofs.{Math.Bool.or-true}
 pub use Rattle.std.proofs.Common.{[], ap, append_assoc, arith, bit_and, Bool, cond, div-add-mod', eqb, Err, false}
 pub use Rattle.std.proofs.Common.{get_or, if◌then◌else◌, inl, inr, IsSome, length, length-append, length-set, List}
 pub use Rattle.std.proofs.Common.{ltb, map, min, None, Ok, Option, refl, replicate, rules, slice_index, slice_set}
@@ -11,7 +13,8 @@ pub use Rattle.std.proofs.lemmas.Bool.{false≢true, le-ltb, lt-ltb, ltb-true, n
 pub use Rattle.std.proofs.lemmas.List.{append-nil, append_cancel_left, get_or-append_right, get_or-map}
 pub use Rattle.std.proofs.lemmas.List.{get_or_append_left, get_or_default, get_or_past, length-map, length-replicate}
 pub use Rattle.std.proofs.lemmas.List.{nil_from_length, set-get_or}
-pub use Rattle.std.proofs.lemmas.Nat.Bits.{bit_at-lt, bit_at-zero, bit_at_above, bit_at_and, bit_at_ones, bit_at_ones_above, same_from_bits}
+pub use Rattle.std.proofs.lemmas.Nat.Bits.{bit_at-lt, bit_at-zero, bit_at_above, bit_at_and}
+pub use Rattle.std.proofs.lemmas.Nat.Bits.{bit_at_ones, bit_at_ones_above, same_from_bits}
 pub use mathlib.Core.Path.{fun_ext, subst₃}
 pub use Rattle.atomic_table.proofs.Lists.{at_longer, at_set, at_snoc, set_else, set_here}
 pub use Rattle.atomic_table.specs.Table.{step}
@@ -57,7 +60,8 @@ pub use Rattle.vm_laws_device.proofs.Laws.{write_fault_law, write_law}
 pub use Rattle.vm_laws_others.specs.Leaves.{CountsMove, LeavesActor, PageMoves}
 pub use Rattle.vm_laws_others.proofs.{Device.called-leaves, Laws.leave_others, Page.counts-same, Page.page-leaves}
 pub use Rattle.vm_owner.specs.Kept.{AreCounted}
-pub use Rattle.vm_owner.proofs.{Counts.counted-more, NumberLemmas.apart-end, NumberLemmas.has-without_other, NumberLemmas.has-without_same}
+pub use Rattle.vm_owner.proofs.{Counts.counted-more, NumberLemmas.apart-end}
+pub use Rattle.vm_owner.proofs.{NumberLemmas.has-without_other, NumberLemmas.has-without_same}
 pub use Rattle.vm_rule.specs.{Begun.begin_play, Begun.begun, Brought.IsStepOf, Brought.set_block}
 pub use Rattle.vm_rule.specs.{declared.view.Did.Did, declared.view.Note.Note, declared.view.Origin.Origin}
 pub use Rattle.vm_rule.specs.{declared.view.Out.Out, declared.view.WordPlace.TheVariants.Next}

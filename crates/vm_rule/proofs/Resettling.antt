@@ -1,9 +1,9 @@
--- The views of a table change, and none of its words and slots: passes that come have nothing, those that go hold no page, and a pass gets
--- the frames of one that goes. What the table shows meets the invariant, and what is known of its pages is as it was;
--- the table meets the rule
--- where each view that came is shown to be fit.
+-- The views of a table change, and none of its words and slots: passes that come have nothing, those that go hold no
+-- page, and a pass gets the frames of one that goes. What the table shows meets the invariant, and what is known of
+-- its pages is as it was; the table meets the rule where each view that came is shown to be fit.
 use mathlib.Core.Option as maybe
-use Rattle.vm_rule.proofs.{Entries.append-none, Pages.page-in, Pages.page-out, Views.at-bound, Views.at-there, Views.views-set}
+use Rattle.vm_rule.proofs.{Entries.append-none, Pages.page-in, Pages.page-out}
+use Rattle.vm_rule.proofs.{Views.at-bound, Views.at-there, Views.views-set}
 use Rattle.std.specs.Prelude.{map}
 use Rattle.vm_event.specs.Prelude.{has_free_bit}
 use Rattle.vm_numbers.specs.Hands.{NumbersFit}
@@ -192,7 +192,8 @@ set-some P l i a b there f h =
     (cases_eq h.0 i)
 
 -- who has seen all has nothing more to be told
-pub all-told : {A : Type 0} (all told seen : List A) → StartsWith all told → StartsWith told seen → seen ≡ all → told ≡ all
+pub all-told : {A : Type 0} (all told seen : List A) → StartsWith all told → StartsWith told seen → seen ≡ all
+    → told ≡ all
 all-told all told seen s t e =
     let a : length all ≡ length told + length s.0 = ap length s.1 ∙ length-append told s.0 in
     let b : length told ≡ length seen + length t.0 = ap length t.1 ∙ length-append seen t.0 in
@@ -200,7 +201,8 @@ all-told all told seen s t e =
     sym (s.1 ∙ ap (λ l. told ++ l) (nil_from_length s.0 (omega (arith, a, b, c))) ∙ append-none told)
 
 -- of a list that a pass has seen or was told whole, and of which it was told nothing, it has seen all
-seen-whole : {A : Type 0} (all seen told : List A) → StartsWith all seen → told ≡ [] → (seen ≡ all) ⊎ (told ≡ all) → seen ≡ all
+seen-whole : {A : Type 0} (all seen told : List A) → StartsWith all seen → told ≡ [] → (seen ≡ all) ⊎ (told ≡ all)
+    → seen ≡ all
 seen-whole all seen told s none = ⊎_elim (λ e. e) (λ e. all-told all seen [] s (seen, refl) (sym none ∙ e))
 
 module _ {X B : Type 0} (stored : B → Stored) (keeps : Start → Kept X → Type 0)
@@ -254,7 +256,8 @@ module _ {X B : Type 0} (stored : B → Stored) (keeps : Start → Kept X → Ty
   }
 
   module _ (views' : List (View X)) (k from to : ℕ) (g : Resettles s.views views' k from to) where
-    -- each view is fit, together they have the notes and the parts of those before, and some view knows each of the two lists
+    -- each view is fit, together they have the notes and the parts of those before, and some view knows each of the
+    -- two lists
     pub record Settles : Type 0 where
       pub fit : (j : ℕ) (u : View X) → get_elem? views' j ≡ some u → IsFit u
       pub notes : (p n : ℕ) → total (λ y. times_noted p n y.notes) views' ≡ total (λ y. times_noted p n y.notes) s.views
@@ -263,7 +266,8 @@ module _ {X B : Type 0} (stored : B → Stored) (keeps : Start → Kept X → Ty
       pub numbers : start.tells ≡ true → NumbersFit (has_free_bit (core_shown stored start s).spares)
           (core_shown stored start s).next (λ p. (histories_of start r.releases r.drafts p).last.words)
           (logical (histories_of start r.releases r.drafts) (is_pending s.views)) (map hands_of views')
-      pub holding : start.tells ≡ true → (p : ℕ) → any (λ y. has p y.numbers) views' ≡ any (λ y. has p y.numbers) s.views
+      pub holding : start.tells ≡ true → (p : ℕ)
+          → any (λ y. has p y.numbers) views' ≡ any (λ y. has p y.numbers) s.views
       pub giving : start.tells ≡ true → (p : ℕ) → any (λ y. has p y.freed) views' ≡ any (λ y. has p y.freed) s.views
       pub releases : HasSome KnowsReleases views'
       pub history : HasSome KnowsHistory views'

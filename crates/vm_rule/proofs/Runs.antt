@@ -79,7 +79,8 @@ either-state P true x y f g = f refl
 either-state P false x y f g = g
 
 -- they stay so: numbers that are taken clear bits, and those that are given are of pages
-pub spares-inside : (c : State) (e : Event) → Legal c e → ArePages c.shape.pages c → ArePages c.shape.pages (after_event c e)
+pub spares-inside : (c : State) (e : Event) → Legal c e → ArePages c.shape.pages c
+    → ArePages c.shape.pages (after_event c e)
 spares-inside c (Take a g expects mask) m inside =
     either-state (ArePages c.shape.pages) (eqb (c.bundles g) expects) _ c (λ _. inside) inside
 spares-inside c (PTake a g expects mask) m inside =

@@ -1,5 +1,6 @@
 -- The rule keeps of each live view what is read off that view alone.
-use Rattle.vm_rule.proofs.{Heard.one-most, Heard.times-has, Heard.times-joined, Worlds.last-else, Worlds.last-here, Worlds.last-is}
+use Rattle.vm_rule.proofs.{Heard.one-most, Heard.times-has, Heard.times-joined}
+use Rattle.vm_rule.proofs.{Worlds.last-else, Worlds.last-here, Worlds.last-is}
 use Rattle.vm_rule.proofs.Entries.{append-none, none-each, total-at}
 use Rattle.vm_rule.proofs.Prelude.{[], ap, append_assoc, AreApart, AreCounted, AreNext, arith, Bool, cases_Bool}
 use Rattle.vm_rule.proofs.Prelude.{cases_eq, Each, entries_by, Entry, eq-eqb, get_elem?, has, if◌then◌else◌, Kept}

@@ -28,7 +28,8 @@ cut-has k (n ∷ l) e = ap (λ c. eqb k n || c) e ∙ or-true (eqb k n)
 
 -- ---- one more at the end
 
-snoc-past : {A : Type 0} (d x : A) (l : List A) (a : ℕ) → (at d (l ++ x ∷ []) a ≡ at d l a) ⊎ ((at d (l ++ x ∷ []) a ≡ x) × (at d l a ≡ d))
+snoc-past : {A : Type 0} (d x : A) (l : List A) (a : ℕ)
+    → (at d (l ++ x ∷ []) a ≡ at d l a) ⊎ ((at d (l ++ x ∷ []) a ≡ x) × (at d l a ≡ d))
 unfolding at
 snoc-past d x [] zero = inr (refl, refl)
 snoc-past d x [] (suc a) = inl refl

@@ -1,16 +1,20 @@
 -- What the pages of a group read: the word of its first page. A word of no group stands where it stood.
-use Rattle.std.proofs.Common.{[], ⊎_elim, ◌+◌, ◌<◌, ◌∙◌, ◌∷◌, ◌≡◌, ◌≢◌, ◌≤◌, ◌⊎◌, ap, arith, inl, inr, length, List, refl}
+use Rattle.std.proofs.Common.{[], ⊎_elim, ◌+◌, ◌<◌, ◌∙◌, ◌∷◌, ◌≡◌, ◌≢◌, ◌≤◌}
+use Rattle.std.proofs.Common.{◌⊎◌, ap, arith, inl, inr, length, List, refl}
 use Rattle.std.proofs.Common.{Bool, subst, suc, sym, true, zero, ℕ}
 use Rattle.std.proofs.lemmas.Bool.{cases_Bool, cases_eq, cases_lt, cond-false, cond-true}
 use Rattle.std.proofs.lemmas.List.{ext_get_or, get_or-set_other, get_or-set_same, set_past}
 use Rattle.std.specs.Prelude.{slice_index, slice_set}
 use Rattle.vm_event.specs.Groups.{in_group}
 use Rattle.vm_event.specs.Prelude.{GroupsFit, head_in, IsUngrouped}
-use Rattle.vm_event.proofs.Groups.{group-outside, head-among, head-apart, head-le, head-past, inside-group, past-ungrouped}
+use Rattle.vm_event.proofs.Groups.{group-outside, head-among, head-apart, head-le}
+use Rattle.vm_event.proofs.Groups.{head-past, inside-group, past-ungrouped}
 use Rattle.vm_event.proofs.Groups.{ungrouped-only, ungrouped-own}
 use Rattle.vm_rule.proofs.Prelude.{get_or_past, length-set}
-use Rattle.vm_rule.specs.{declared.view.Origin.Origin, declared.view.WordPlace.WordPlace, Layout.at_state, Layout.index_of}
-use Rattle.vm_rule.specs.declared.view.WordPlace.TheVariants.{Bundle, Content, Fault, Hand, Next, Owner, Spare, State, Translation}
+use Rattle.vm_rule.specs.{declared.view.Origin.Origin, declared.view.WordPlace.WordPlace}
+use Rattle.vm_rule.specs.{Layout.at_state, Layout.index_of}
+use Rattle.vm_rule.specs.declared.view.WordPlace.TheVariants.{Bundle, Content, Fault, Hand, Next}
+use Rattle.vm_rule.specs.declared.view.WordPlace.TheVariants.{Owner, Spare, State, Translation}
 use Rattle.vm_rule.specs.Spread.{copied, spread}
 
 -- ---- n words that become one
@@ -130,6 +134,7 @@ spread-alike pages gs fit words x alike =
     (cases_lt p pages))
 
 -- an owner that takes no groups has no page in one
-pub none-grouped : (takes : List (ℕ × ℕ) → Bool) → ((gs : List (ℕ × ℕ)) → takes gs ≡ true → gs ≡ []) → (list groups : List (ℕ × ℕ))
+pub none-grouped : (takes : List (ℕ × ℕ) → Bool) → ((gs : List (ℕ × ℕ)) → takes gs ≡ true → gs ≡ [])
+    → (list groups : List (ℕ × ℕ))
     → takes list ≡ true → list ≡ groups → (p : ℕ) → IsUngrouped groups p
 none-grouped takes none list groups taken same p = subst (λ (l : List (ℕ × ℕ)). IsUngrouped l p) (sym (none list taken) ∙ same) tt

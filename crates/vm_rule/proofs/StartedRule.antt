@@ -200,7 +200,8 @@ module _ (X : Type 0) {B : Type 0} (stored : B → Stored) (size : ℕ) (tells :
     only : (P : View X → Type 0) → P (first_view start) → (j : ℕ) (u : View X) → get_elem? table.views j ≡ some u → P u
     only P p j u there = subst P (sym (only-one (first_view start) j u there).1) p
 
-    last-words : (p : ℕ) → p < start.pages → (histories_of start [] (λ p. []) p).last.words ≡ at (replicate size 0) start.contents p
+    last-words : (p : ℕ) → p < start.pages
+        → (histories_of start [] (λ p. []) p).last.words ≡ at (replicate size 0) start.contents p
     unfolding histories_of
     last-words p l = rw (lt-ltb p start.pages l) refl
 
@@ -229,7 +230,8 @@ module _ (X : Type 0) {B : Type 0} (stored : B → Stored) (size : ℕ) (tells :
     set-there p e = sym (spares-are p) ∙ e
 
     -- their pages are zero
-    spare-zero : tells ≡ true → (p : ℕ) → has_free_bit c.spares p ≡ true → all_zero (histories_of start [] (λ q. []) p).last.words ≡ true
+    spare-zero : tells ≡ true → (p : ℕ) → has_free_bit c.spares p ≡ true
+        → all_zero (histories_of start [] (λ q. []) p).last.words ≡ true
     unfolding at
     spare-zero t p e =
         let low : p < length blocks = of-pages p (set-there p e) in
@@ -364,7 +366,8 @@ module _ (X : Type 0) {B : Type 0} (stored : B → Stored) (size : ℕ) (tells :
     -- the table meets its rule when it is made with the shape, the words and the slots that were made of these
     -- blocks; these are as many as the
     -- shape says
-    pub opens : (xs ys : List B) → xs ≡ items → ys ≡ items → (shape' : TableShape) (row : List ℕ) (slots : List (Option B))
+    pub opens : (xs ys : List B) → xs ≡ items → ys ≡ items
+        → (shape' : TableShape) (row : List ℕ) (slots : List (Option B))
         → shape' ≡ record {
           size = size;
           pages = length xs;
@@ -373,7 +376,8 @@ module _ (X : Type 0) {B : Type 0} (stored : B → Stored) (size : ℕ) (tells :
           next = next;
           began = (started_shape size tells version next free groups frames (map stored xs)).began;
         }
-        → row ≡ started_words size (length ys) frames version next free (counts_of (map stored ys)) → slots ≡ map Some items
+        → row ≡ started_words size (length ys) frames version next free (counts_of (map stored ys))
+        → slots ≡ map Some items
         → Stands stored keeps tied shape' tells (opening row slots (unborn shape'))
         × ((length row ≡ width_of shape'.size shape'.pages shape'.frames) × (length slots ≡ shape'.pages))
     opens xs ys same same' shape' row slots e f h =

@@ -1,6 +1,7 @@
 -- The words with which a pool's table opens, laid one part after another, read by the layout.
 use Rattle.vm_rule.proofs.FreeWords.{with_free-other}
-use Rattle.vm_rule.proofs.ListFacts.{at-left, at-listed, at-map, at-past, at-right, at-zeros, length-listed, length-mapped}
+use Rattle.vm_rule.proofs.ListFacts.{at-left, at-listed, at-map, at-past}
+use Rattle.vm_rule.proofs.ListFacts.{at-right, at-zeros, length-listed, length-mapped}
 use Rattle.vm_rule.proofs.Parts.{listed-same}
 use Rattle.vm_rule.proofs.Prelude.{[], ap, append-nil, append_assoc, arith, AreClaimed, at, Bool, bundles_of}
 use Rattle.vm_rule.proofs.Prelude.{cases_lt, counts_of, EVICTED, frame_words, free_words, full_bundle, le-ltb, length}
@@ -41,7 +42,8 @@ length-laid [] = refl
 length-laid (x ∷ xs) = length-append x (laid xs) ∙ ap (λ n. length x + n) (length-laid xs)
 
 -- what stands behind the first rows
-past-laid : (before after : List (List ℕ)) (i k : ℕ) → i ≡ long_of before + k → at 0 (laid (before ++ after)) i ≡ at 0 (laid after) k
+past-laid : (before after : List (List ℕ)) (i k : ℕ) → i ≡ long_of before + k
+    → at 0 (laid (before ++ after)) i ≡ at 0 (laid after) k
 past-laid [] after i k e = let same : i ≡ k = omega arith in ap (at 0 (laid after)) same
 past-laid (x ∷ xs) after i k e =
     at-right 0 x (laid (xs ++ after)) i (long_of xs + k) (omega arith) ∙ past-laid xs after (long_of xs + k) k refl
@@ -126,7 +128,8 @@ module _ (size : ℕ) (tells : Bool) (version next : ℕ) (free : List ℕ) (gro
       (omega (arith, long.0)) long.1 p
       ∙ at-zeros (length blocks) p
 
-  pub started-fault : (b : Stored) (p : ℕ) → p < length blocks → (table_words start words).faults p ≡ (at b blocks p).count
+  pub started-fault : (b : Stored) (p : ℕ) → p < length blocks
+      → (table_words start words).faults p ≡ (at b blocks p).count
   started-fault b p l =
       part-laid words rows _ (states ∷ blank (length blocks) ∷ []) (counts_of blocks) (2 * length blocks)
       (length blocks) words-laid refl (omega (arith, long.0, long.1)) long.2 p

@@ -1,6 +1,7 @@
 -- What the invariant tells, in full.
 use Rattle.vm_event.specs.Inv.{FramePlace}
-use Rattle.vm_rule.proofs.Prelude.{eq-eqb, FrameIsAt, Free, free-place, Held, held-place, Inv, Mapped, mapped-place, Nowhere, refl}
+use Rattle.vm_rule.proofs.Prelude.{eq-eqb, FrameIsAt, Free, free-place, Held, held-place}
+use Rattle.vm_rule.proofs.Prelude.{Inv, Mapped, mapped-place, Nowhere, refl}
 use Rattle.vm_rule.proofs.Prelude.{StandsAt, State, subst, sym, Told, World, ℕ, ◌<◌, ◌∙◌, ◌≡◌}
 
 at-place : (c : State) (f : ℕ) (x : FramePlace) → f < c.shape.frames → FrameIsAt c f x → StandsAt c f x

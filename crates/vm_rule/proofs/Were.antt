@@ -1,4 +1,5 @@
--- The words that the steps of a pass found and left on a state word or on the next word tell of the table's words from then on.
+-- The words that the steps of a pass found and left on a state word or on the next word tell of the table's words
+-- from then on.
 use Rattle.vm_rule.specs.declared.view.WordPlace.TheVariants.{State}
 use Rattle.vm_rule.proofs.Found.{next-here, state-here, version-here}
 use Rattle.vm_rule.proofs.Prelude.{ap, arith, at_next, at_state, cases_Bool, core_shown, Did, EVICTED, index_of}

@@ -1,5 +1,5 @@
--- Words of the table as numbers: a state word is its state and its version, a translation word its frame and its dirty bit. None of these
--- asks that the word is below 2^64.
+-- Words of the table as numbers: a state word is its state and its version, a translation word its frame and its
+-- dirty bit. None of these asks that the word is below 2^64.
 use Rattle.vm_rule.proofs.Prelude.{and_from, ap, arith, cases_Bool, div-add-mod', eq-eqb, false, finds, found}
 use Rattle.vm_rule.proofs.Prelude.{frame-of, frame_in, mapping_of, MAX_VERSION, None, Page, refl, Some, state_of, sym}
 use Rattle.vm_rule.proofs.Prelude.{top-clear, top-set, true, UNLOCKED, version_of, word_of, ℕ, ⊎_elim, ◌%◌, ◌*◌, ◌+◌}
@@ -47,11 +47,13 @@ unfolding version_of
 bare-version n l = omega arith
 
 -- the word that was found is the one expected, or not
-pub finds-hit : (r : Page) (n expects : ℕ) → r.state ≡ state_of n → r.version ≡ version_of n → n ≡ expects → finds r expects ≡ true
+pub finds-hit : (r : Page) (n expects : ℕ) → r.state ≡ state_of n → r.version ≡ version_of n → n ≡ expects
+    → finds r expects ≡ true
 finds-hit r n expects s v e = and_from _ _ (eq-eqb r.state (state_of expects) (s ∙ ap state_of e))
     (eq-eqb r.version (version_of expects) (v ∙ ap version_of e))
 
-pub finds-miss : (r : Page) (n expects : ℕ) → r.state ≡ state_of n → r.version ≡ version_of n → n ≢ expects → finds r expects ≡ false
+pub finds-miss : (r : Page) (n expects : ℕ) → r.state ≡ state_of n → r.version ≡ version_of n → n ≢ expects
+    → finds r expects ≡ false
 finds-miss r n expects s v ne =
     ⊎_elim (λ t. let k = found r expects t in absurd (ne (word-is n expects (sym s ∙ k.0) (sym v ∙ k.1)))) (λ f. f)
     (cases_Bool (finds r expects))

@@ -3,7 +3,8 @@ use Rattle.std.proofs.Common.{eq-eqb, ne_eqb}
 use Rattle.vm_event.specs.{declared.event.Event.TheVariants.Release, History.stored as store_history}
 use Rattle.vm_rule.specs.declared.view.WordPlace.TheVariants as places
 use Rattle.vm_rule.specs.declared.view.Release.{Release as Released}
-use Rattle.vm_rule.proofs.{Found.content-here, Found.loads-here, Found.seat-here, Found.seats-here, Parts.upd-is, Views.block-same}
+use Rattle.vm_rule.proofs.{Found.content-here, Found.loads-here, Found.seat-here}
+use Rattle.vm_rule.proofs.{Found.seats-here, Parts.upd-is, Views.block-same}
 use Rattle.vm_event.specs.declared.event.PageAct.TheVariants as acts
 use Rattle.vm_event.specs.Step.{keeps_number}
 use Rattle.vm_owner.specs.Numbers.{has}
@@ -21,7 +22,8 @@ use Rattle.vm_rule.proofs.Prelude.{Inv, kept_loads, last_in, left_of, length, le
 use Rattle.vm_rule.proofs.Prelude.{loads_at, loads_more, loads_of, LOCKED, LockS, LockW, LockX, Look, mapped-place}
 use Rattle.vm_rule.proofs.Prelude.{Mapping, Mark, MARKED, None, on_page, one_share_more, open_after, open_frame}
 use Rattle.vm_rule.proofs.Prelude.{Option, Origin, Page, pushed, put, refl, ReleaseE, Seat, seat_of, seated, seats_of}
-use Rattle.vm_rule.proofs.Prelude.{slice_index, slice_set, Some, some, WordPlace, stands_in, State, state_of, Store, subst}
+use Rattle.vm_rule.proofs.Prelude.{slice_index, slice_set, Some, some, WordPlace}
+use Rattle.vm_rule.proofs.Prelude.{stands_in, State, state_of, Store, subst}
 use Rattle.vm_rule.proofs.Prelude.{Stored, stored_at, sym, Table, table_words, TLoad, true, UNLOCKED, UnlockS, Unmark}
 use Rattle.vm_rule.proofs.Prelude.{unshared, upd, upd-other, upd-same, upd-self, Upgrade, version_of, View, width}
 use Rattle.vm_rule.proofs.Prelude.{word_at, World, world_after, world_of, ℕ, ⊎_elim, ◌++◌, ◌+◌, ◌-◌, ◌<◌, ◌∙◌, ◌∷◌}
@@ -204,7 +206,8 @@ module _ {X B : Type 0} (stored : B → Stored) (start : Origin) where
         → length s.words ≡ width start → p < start.pages → get_elem? s.views id ≡ some v → w.out ≡ v.out
         → w.frames ≡ v.frames
         → numbers_held (slice_set s.views id w) ≡ numbers'
-        → seats_of (slice_set s.views id w) ≡ upd (seats_of s.views) p row → row ≡ row' → state_of x ≡ state → version_of x ≡ version
+        → seats_of (slice_set s.views id w) ≡ upd (seats_of s.views) p row → row ≡ row' → state_of x ≡ state
+        → version_of x ≡ version
         → core_shown stored start (wrote s id (places.State p) x w) ≡ record (on_page c p (record (page p) {
           state = state;
           version = version;
@@ -218,7 +221,8 @@ module _ {X B : Type 0} (stored : B → Stored) (start : Origin) where
 
     state-step : (p x state version : ℕ) (row row' : ℕ → Seat) → length s.words ≡ width start → p < start.pages
         → get_elem? s.views id ≡ some v → w.out ≡ v.out → holdings w ≡ holdings v
-        → seats_of (slice_set s.views id w) ≡ upd (seats_of s.views) p row → row ≡ row' → state_of x ≡ state → version_of x ≡ version
+        → seats_of (slice_set s.views id w) ≡ upd (seats_of s.views) p row → row ≡ row' → state_of x ≡ state
+        → version_of x ≡ version
         → core_shown stored start (wrote s id (places.State p) x w) ≡ on_page c p (record (page p) {
           state = state;
           version = version;
@@ -289,7 +293,8 @@ module _ {X B : Type 0} (stored : B → Stored) (start : Origin) where
 
     -- ---- steps that write a state word
 
-    -- what such a step asks: the views but that of the pass are as they were, and so is this pass's but for its seat and its loads
+    -- what such a step asks: the views but that of the pass are as they were, and so is this pass's but for its seat
+    -- and its loads
     abbrev Writes : ℕ → Type 0 → Type 0
     Writes p T = length s.words ≡ width start → p < start.pages → get_elem? s.views id ≡ some v → w.out ≡ v.out
         → holdings w ≡ holdings v → T

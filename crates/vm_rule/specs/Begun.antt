@@ -1,5 +1,6 @@
--- The rule of a table that is made with its shape. How it began, with its first words and blocks, the shape has for proofs alone: the first
--- step of its first pass learns them. Until then the first view stands for nothing but its parts.
+-- The rule of a table that is made with its shape. How it began, with its first words and blocks, the shape has for
+-- proofs alone: the first step of its first pass learns them. Until then the first view stands for nothing but its
+-- parts.
 use Rattle.std.specs.Prelude.{[], ◌∷◌, ◌≡◌, ◌⊎◌, Bool, false, List, Option, slice_index, ℕ}
 use Rattle.atomic_table.specs.Table.{Me, State as Table, Step}
 use Rattle.vm_block.specs.declared.stored.Stored.{Stored}
@@ -35,7 +36,8 @@ pub record HasShape (shape : TableShape) (start : Origin) : Type 0 where
   pub next : start.next ≡ shape.next
 
 module _ {X : Type 0} where
-  -- the first pass before its first step: it has all parts, and does not live yet. How the table began it has for that step to tell
+  -- the first pass before its first step: it has all parts, and does not live yet. How the table began it has for
+  -- that step to tell
   abbrev pub unborn : TableShape → View X
   unborn shape = record (view_from false shape.began.origin (0 ∷ []) (numbers 1 4294967295)) { snapshot = shape.began.snapshot }
 
@@ -48,8 +50,8 @@ module _ {X : Type 0} where
   begin_play step m found m' = (m'.0 ≡ begun m.0) × Sound m'.0 × (m'.1 ≡ m.1)
 
   module _ {B : Type 0} (stored : B → Stored) (keeps : Start → Kept X → Type 0) (tied : Start → ℕ → List ℕ → ℕ → List ℕ → Type 0) where
-    -- the table, as its pages read it, meets the rule; or it has its first words and blocks, and would meet the rule with the first pass's
-    -- view
+    -- the table, as its pages read it, meets the rule; or it has its first words and blocks, and would meet the rule
+    -- with the first pass's view
     pub record Stands (shape : TableShape) (tells : Bool) (s : Table (Option B) (View X)) : Type 0 where
       pub start : Origin
       pub is_shape : HasShape shape start

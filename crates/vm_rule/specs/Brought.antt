@@ -1,6 +1,7 @@
 -- What any step of a pass leaves of its view: the lists are brought up to date, the step stands in the log, and the
 -- step's own changes are made.
-use Rattle.std.specs.Prelude.{[], ◌++◌, ◌+◌, ◌∷◌, ◌≡◌, length, List, None, Option, slice_index, slice_set, Some, true, ℕ}
+use Rattle.std.specs.Prelude.{[], ◌++◌, ◌+◌, ◌∷◌, ◌≡◌, length, List}
+use Rattle.std.specs.Prelude.{None, Option, slice_index, slice_set, Some, true, ℕ}
 use Rattle.vm_block.specs.declared.stored.Stored.{Stored}
 use Rattle.vm_owner.specs.{declared.Entry.Entry, Kept.entries_under}
 use Rattle.vm_rule.specs.{declared.view.Did.Did, declared.view.Origin.Origin, declared.view.Release.Release}
@@ -56,8 +57,8 @@ module _ {X : Type 0} where
         log = v.log ++ did ∷ [];
       }
 
-  -- A step of the pass with the view v, which made the changes of `inner` and added these releases and entries, leaves the view w.
-  -- Behind what the pass had seen of the two lists stands what others added, and then its own.
+  -- A step of the pass with the view v, which made the changes of `inner` and added these releases and entries,
+  -- leaves the view w. Behind what the pass had seen of the two lists stands what others added, and then its own.
   pub record BringsWith (did : Did) (block : Option (ℕ × Stored)) (own : List Release) (entries : List (Entry X))
       (v inner w : View X) : Type 0 where
     pub between : List Release
@@ -75,7 +76,8 @@ module _ {X : Type 0} where
     -- what the rule keeps of the view
     pub sound : Sound w
     -- a pass that is alone sees its own steps only
-    pub alone : IsWhole v → v.current ≡ true → (between ≡ []) × (others ≡ []) × IsStepOf v.start did block v.snapshot snapshot
+    pub alone : IsWhole v → v.current ≡ true
+        → (between ≡ []) × (others ≡ []) × IsStepOf v.start did block v.snapshot snapshot
 
   -- the same of a step that changes no block
   abbrev pub Brings : Did → List Release → List (Entry X) → View X → View X → View X → Type 0

@@ -1,11 +1,12 @@
--- What the steps on a bundle word and on the hand tell. Frames that are taken come to the pass with their words; frames that are given back
--- leave it.
+-- What the steps on a bundle word and on the hand tell. Frames that are taken come to the pass with their words;
+-- frames that are given back leave it.
 use Rattle.std.specs.Int.{bit_at}
 use Rattle.std.specs.Prelude.{[], bit_and, bit_or, bit_xor, false, if◌then◌else◌, length, List, suc, true, zero, ℕ}
 use Rattle.std.specs.Prelude.{◌*◌, ◌++◌, ◌+◌, ◌<◌, ◌==◌, ◌∷◌, ◌≡◌}
 use Rattle.vm_event.specs.{declared.words.TheConstants.FRAMES, Prelude.hand_more, Prelude.in_mask}
 use Rattle.vm_owner.specs.Numbers.{has}
-use Rattle.vm_rule.specs.{Brought.Brings, declared.view.Put.Put, declared.view.View.View, Puts.put, Releases.without_all}
+use Rattle.vm_rule.specs.{Brought.Brings, declared.view.Put.Put, declared.view.View.View}
+use Rattle.vm_rule.specs.{Puts.put, Releases.without_all}
 use Rattle.vm_rule.specs.declared.view.WordPlace.TheVariants as places
 use Rattle.vm_rule.specs.Log.{did_change, did_exchange, did_load}
 

@@ -1,7 +1,8 @@
 -- What a raise of a fault word tells: it becomes the count of the page's block, and a count that it rises to is noted.
 use Rattle.std.specs.Prelude.{[], ◌++◌, ◌==◌, ◌||◌, ◌∷◌, if◌then◌else◌, List, nat_lt, ℕ}
 use Rattle.vm_event.specs.Prelude.{MAX_COUNT}
-use Rattle.vm_rule.specs.{Brought.Brings, declared.view.Note.Note, declared.view.View.View, Log.did_store, Mappings.held_at, Puts.put}
+use Rattle.vm_rule.specs.{Brought.Brings, declared.view.Note.Note, declared.view.View.View}
+use Rattle.vm_rule.specs.{Log.did_store, Mappings.held_at, Puts.put}
 use Rattle.vm_rule.specs.declared.view.WordPlace.TheVariants as places
 
 -- a count that the fault word rises to is noted; so is the last count, each time

@@ -19,8 +19,8 @@ module _ {X : Type 0} where
   numbered_view g mask v = record v { numbers = frames_in g mask ++ v.numbers }
 
   -- the numbers taken are of pages; where the blocks tell their words, they were not the pass's: it neither held them
-  -- nor had freed their pages. A page of them
-  -- that is a member of its own still to be released has a draft of zeros; one that it holds exclusively has zeros as its last version
+  -- nor had freed their pages. A page of them that is a member of its own still to be released has a draft of zeros;
+  -- one that it holds exclusively has zeros as its last version
   pub record TakeNumbersTold (g expects mask found : ℕ) (v w : View X) : Type 0 where
     pub brings : Brings (did_exchange (places.Spare g) expects found (bit_xor expects mask)) [] [] v
         (if found == expects then numbered_view g mask v else v) w

@@ -28,8 +28,8 @@ module _ {X : Type 0} where
   }
 
   -- The pass v was told of lists that go on from those that it had seen, loaded the next word, took them over, and
-  -- has the view x. Between what
-  -- it had seen and what it was told stands no entry with one of its numbers, and no release of a page that it has locked.
+  -- has the view x. Between what it had seen and what it was told stands no entry with one of its numbers, and no
+  -- release of a page that it has locked.
   pub record TakesOver (v x : View X) : Type 0 where
     pub found : ℕ
     pub view : x ≡ follower v (did_load places.Next found)

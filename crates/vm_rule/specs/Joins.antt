@@ -41,9 +41,9 @@ module _ {X : Type 0} where
   abbrev pub knows_more : View X → View X → Bool
   knows_more v w = nat_lt (length v.seen) (length w.seen)
 
-  -- the pass v after it took in w, which holds no page: it has what both had of parts, frames, notes and steps; the open reads, ties and
-  -- translations of w are gone. Of the lists it knows for itself the longer history and its own releases; the others
-  -- are told at its next step
+  -- the pass v after it took in w, which holds no page: it has what both had of parts, frames, notes and steps; the
+  -- open reads, ties and translations of w are gone. Of the lists it knows for itself the longer history and its own
+  -- releases; the others are told at its next step
   abbrev pub joined : View X → View X → View X
   joined v w =
       record v {

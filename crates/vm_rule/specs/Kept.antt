@@ -1,12 +1,14 @@
 -- What is kept by a list of events from the start.
 use Rattle.std.specs.Prelude.{◌++◌, ◌≡◌, ◌≤◌, List, take, ℕ}
-use Rattle.vm_event.specs.Prelude.{begin, core_start, CoreStart, FrameOnce, GroupsFit, Inv, RunsTo, start, State, world_run}
+use Rattle.vm_event.specs.Prelude.{begin, core_start, CoreStart, FrameOnce, GroupsFit}
+use Rattle.vm_event.specs.Prelude.{Inv, RunsTo, start, State, world_run}
 use Rattle.vm_event.specs.{OneVersion.AllReadOne, Told.DeviceHolds, Told.FaultsTold}
 use Rattle.vm_core.specs.{declared.playing.ReplayFault.ReplayFault}
 use Rattle.vm_core.specs.declared.playing.ReplayFault.TheVariants as faults
 use Rattle.vm_rule.specs.Prelude.{CoreShape, Event}
 
--- the events lead from the start to the state, meet the invariant and what it tells, and each validated read saw one version
+-- the events lead from the start to the state, meet the invariant and what it tells, and each validated read saw one
+-- version
 pub record KeptFrom (s : CoreStart) (events : List Event) (new : State) : Type 0 where
   pub runs : RunsTo (start s) events new
   pub core : (world_run (begin s) events).core ≡ new

@@ -1,9 +1,11 @@
--- Where each word of the table stands: P state words, P translation words, P fault words, a page's words for each frame, a word for each
--- bundle of 64 frames, the next word, the hand word, an owner word for each frame, a free-number word for each 64 pages.
+-- Where each word of the table stands: P state words, P translation words, P fault words, a page's words for each
+-- frame, a word for each bundle of 64 frames, the next word, the hand word, an owner word for each frame, a
+-- free-number word for each 64 pages.
 use Rattle.std.specs.Prelude.{◌*◌, ◌+◌, ◌-◌, ◌/◌, ◌<◌, if◌then◌else◌, List, nat_lt, ℕ}
 use Rattle.vm_event.specs.{declared.words.TheConstants.FRAMES, Prelude.at, Prelude.upd}
 use Rattle.vm_rule.specs.{declared.view.Origin.Origin, declared.view.WordPlace.WordPlace}
-use Rattle.vm_rule.specs.declared.view.WordPlace.TheVariants.{Bundle, Content, Fault, Hand, Next, Owner, Spare, State, Translation}
+use Rattle.vm_rule.specs.declared.view.WordPlace.TheVariants.{Bundle, Content, Fault, Hand, Next}
+use Rattle.vm_rule.specs.declared.view.WordPlace.TheVariants.{Owner, Spare, State, Translation}
 
 -- the bundles of 64 frames
 abbrev pub bundles_of : ℕ → ℕ

@@ -1,5 +1,6 @@
--- What the steps on locks tell: an exclusive lock, a share or a lock for write-back that is tried, a share that is given up, and a lock for
--- write-back that becomes exclusive. So do the steps on marks. A step that expects a word changes the view only where it found that word.
+-- What the steps on locks tell: an exclusive lock, a share or a lock for write-back that is tried, a share that is
+-- given up, and a lock for write-back that becomes exclusive. So do the steps on marks. A step that expects a word
+-- changes the view only where it found that word.
 use Rattle.std.specs.Prelude.{[], Bool, false, if◌then◌else◌, IsSome, length, List, nat_lt, None, Option, Some, true}
 use Rattle.std.specs.Prelude.{ℕ, ◌++◌, ◌+◌, ◌-◌, ◌<◌, ◌==◌, ◌^◌, ◌||◌, ◌∷◌, ◌≡◌, ◌≢◌, ◌≤◌}
 use Rattle.vm_event.specs.Prelude.{EVICTED, LoadsAre, LOCKED, mapping_of, MAX_VERSION, one_share_more, state_of}
@@ -14,8 +15,8 @@ use Rattle.vm_rule.specs.{Reading.last_of, Rule.began_of, Rule.no_held, Views.Ea
 use Rattle.vm_rule.specs.declared.view.WordPlace.TheVariants as places
 
 -- what a lock of page p tells that was taken at this word, while the page had these last words: whether the page is
--- resident, and where; that
--- its frame's owner word names it; its fault word; and that the block of a page that is clean or not resident has its last words
+-- resident, and where; that its frame's owner word names it; its fault word; and that the block of a page that is
+-- clean or not resident has its last words
 pub record IsHeldAt (p expects frames : ℕ) (tells : Bool) (words : List ℕ) (h : Held) : Type 0 where
   pub empty : state_of expects ≡ EVICTED → h.mapping ≡ None
   pub resident : state_of expects ≢ EVICTED → IsSome h.mapping
@@ -29,7 +30,8 @@ abbrev pub has_lock : Seat → Bool
 has_lock s = s.exclusive || (s.writing || nat_lt 0 s.shares)
 
 module _ {X : Type 0} where
-  -- what a lock of p validates that was taken at a word of this version, while p had these last words: the pass's open read, and the ties
+  -- what a lock of p validates that was taken at a word of this version, while p had these last words: the pass's
+  -- open read, and the ties
   pub record LockValidates (tied : Start → ℕ → List ℕ → ℕ → List ℕ → Type 0) (p version : ℕ) (words : List ℕ) (v : View X) : Type 0 where
     pub valid : (o : Open) → (seat_of v p).reading ≡ Some o → o.version ≡ version → LoadsAre words (loads_at v p)
     pub holds : Each (λ t. t.page ≡ p → t.version ≡ version → tied (began_of v.start) t.of t.words p words) v.ties
@@ -45,7 +47,8 @@ module _ {X : Type 0} where
         drafts = put p words v.drafts;
       }
 
-  -- the pass has no lock of page p, did not claim it for a group still to be released, and does not hold it as the next page
+  -- the pass has no lock of page p, did not claim it for a group still to be released, and does not hold it as the
+  -- next page
   pub record IsUnheld (v : View X) (p : ℕ) : Type 0 where
     pub exclusive : (seat_of v p).exclusive ≡ false
     pub shares : (seat_of v p).shares ≡ 0
@@ -53,7 +56,8 @@ module _ {X : Type 0} where
     pub paid : has p v.owed ≡ false
     pub next : v.next ≢ Some p
 
-  -- a lock was tried: taken where the word is the one expected, with what it validates and what the pass knows of the page then; else lost
+  -- a lock was tried: taken where the word is the one expected, with what it validates and what the pass knows of the
+  -- page then; else lost
   pub record LockTold (tied : Start → ℕ → List ℕ → ℕ → List ℕ → Type 0) (p expects found : ℕ) (v w : View X) : Type 0 where
     pub held : Held
     pub brings : Brings (did_exchange (places.State p) expects found (word_of LOCKED (version_of expects))) [] [] v
@@ -72,7 +76,8 @@ module _ {X : Type 0} where
     pub clean : found ≡ expects → state_of expects ≢ EVICTED →
         Each (λ t. t.page ≡ p → t.version ≡ version_of expects → stands_dirty held.mapping ≡ true →
         stands_dirty (mapping_of t.word) ≡ true) v.translations
-    pub validates : v.start.tells ≡ true → found ≡ expects → LockValidates tied p (version_of expects) (last_of w p).words v
+    pub validates : v.start.tells ≡ true → found ≡ expects
+        → LockValidates tied p (version_of expects) (last_of w p).words v
 
   -- the entry that comes with what is said where a step is taken, if something is said
   abbrev pub entries_where : View X → Option X → Bool → List (Entry X)
@@ -84,7 +89,8 @@ module _ {X : Type 0} where
   mine_with v None = v.mine
   mine_with v (Some x) = v.mine ++ entry_of v x ∷ []
 
-  -- the pass has one share of p more: the open read is closed, and it knows the page, if it did not yet; what is said is its entry
+  -- the pass has one share of p more: the open read is closed, and it knows the page, if it did not yet; what is said
+  -- is its entry
   abbrev pub shared_view : ℕ → Held → Option X → View X → View X
   shared_view p h said v =
       record v {
@@ -112,7 +118,8 @@ module _ {X : Type 0} where
     pub reads_from : found ≡ expects → (o : Open) → (seat_of v p).reading ≡ Some o → o.version ≡ version_of expects
         → (f : ℕ) → o.frame ≡ Some f →
         (m : Mapping) → (put_at no_held w.held p).mapping ≡ Some m → m.frame ≡ f
-    pub validates : v.start.tells ≡ true → found ≡ expects → LockValidates tied p (version_of expects) (last_of w p).words v
+    pub validates : v.start.tells ≡ true → found ≡ expects
+        → LockValidates tied p (version_of expects) (last_of w p).words v
 
   -- one share of p is given up
   abbrev pub unshared_view : ℕ → View X → View X
@@ -157,7 +164,8 @@ module _ {X : Type 0} where
     -- nobody had the page locked
     pub free : found ≡ expects → has p v.pending ≡ false
     pub unheld : found ≡ expects → IsUnheld v p
-    pub validates : v.start.tells ≡ true → found ≡ expects → LockValidates tied p (version_of expects) (last_of w p).words v
+    pub validates : v.start.tells ≡ true → found ≡ expects
+        → LockValidates tied p (version_of expects) (last_of w p).words v
 
   -- the pass has p under write-back, with one share, which is the page's only one where it has the word expected
   pub record MayRaiseLock (v : View X) (p expects : ℕ) : Type 0 where
@@ -185,4 +193,5 @@ module _ {X : Type 0} where
     pub size : length (last_of w p).words ≡ w.start.size
     pub free : found ≡ expects → has p v.pending ≡ false
     pub paid : found ≡ expects → has p v.owed ≡ false
-    pub validates : v.start.tells ≡ true → found ≡ expects → LockValidates tied p (version_of expects) (last_of w p).words v
+    pub validates : v.start.tells ≡ true → found ≡ expects
+        → LockValidates tied p (version_of expects) (last_of w p).words v

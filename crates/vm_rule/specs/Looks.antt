@@ -25,8 +25,8 @@ abbrev pub tie_of : ℕ → List ℕ → ℕ → Option Open → List Tie
 tie_of r words p None = []
 tie_of r words p (Some o) = record { page = p; version = o.version; of = r; words = words } ∷ []
 
--- the word was once that of the page whose word was found now: found has no lower version; it is not readable at a version at which the
--- page was not; and it is evicted only at a version at which the page was
+-- the word was once that of the page whose word was found now: found has no lower version; it is not readable at a
+-- version at which the page was not; and it is evicted only at a version at which the page was
 abbrev pub IsSince : ℕ → Option ℕ → Type 0
 IsSince found None = Unit {0}
 IsSince found (Some word) =
@@ -56,7 +56,8 @@ module _ {X : Type 0} where
   ties_below zero v r words = []
   ties_below (suc n) v r words = (if n == r then [] else tie_of r words n (seat_of v n).reading) ++ ties_below n v r words
 
-  -- what the pass knows after a look at p, which found this word while p had these last words; `said` becomes an entry where the read stays
+  -- what the pass knows after a look at p, which found this word while p had these last words; `said` becomes an
+  -- entry where the read stays
   abbrev pub looked_view : ℕ → Option X → ℕ → List ℕ → View X → View X
   looked_view p said found words v =
       let left = left_at found (seat_of v p).reading in
@@ -68,15 +69,16 @@ module _ {X : Type 0} where
       }
 
   -- What a look at p tells that found this word: p's last version has the word's version. Where the pass's open read
-  -- stays, its words are that
-  -- version's; what earlier looks tied to the page at this version holds of its words, and the page is tied to itself; and each translation
-  -- word of p that was loaded at this version names a frame, which is the open read's. The word agrees with those that the pass saw before.
+  -- stays, its words are that version's; what earlier looks tied to the page at this version holds of its words, and
+  -- the page is tied to itself; and each translation word of p that was loaded at this version names a frame, which
+  -- is the open read's. The word agrees with those that the pass saw before.
   pub record LookTold (tied : Start → ℕ → List ℕ → ℕ → List ℕ → Type 0) (p : ℕ) (said : Option X) (found : ℕ) (v w : View X) : Type 0 where
     pub brings : Brings (did_load (places.State p) found) [] (where_same (left_at found (seat_of v p).reading) (entries_of v said) []) v
         (looked_view p said found (last_of w p).words v) w
     pub version : (last_of w p).version ≡ version_of found
     pub size : length (last_of w p).words ≡ w.start.size
-    pub valid : v.start.tells ≡ true → left_at found (seat_of v p).reading ≡ Same → LoadsAre (last_of w p).words (loads_at v p)
+    pub valid : v.start.tells ≡ true → left_at found (seat_of v p).reading ≡ Same
+        → LoadsAre (last_of w p).words (loads_at v p)
     pub holds : v.start.tells ≡ true → left_at found (seat_of v p).reading ≡ Same →
         Each (λ t. t.page ≡ p → t.version ≡ version_of found → tied (began_of v.start) t.of t.words p (last_of w p).words) v.ties
     pub itself : v.start.tells ≡ true → left_at found (seat_of v p).reading ≡ Same

@@ -3,7 +3,8 @@
 use Rattle.std.specs.Prelude.{[], ◌<◌, ◌∷◌, ◌≡◌, Bool, false, length, List, None, Option, Some, true, ℕ}
 use Rattle.vm_event.specs.{declared.event.Mapping.Mapping, Prelude.trans_word}
 use Rattle.vm_owner.specs.Numbers.{has, without}
-use Rattle.vm_rule.specs.{Brought.Brings, declared.view.Held.Held, declared.view.Put.Put, declared.view.View.View, Log.did_store, Puts.put}
+use Rattle.vm_rule.specs.{Brought.Brings, declared.view.Held.Held, declared.view.Put.Put}
+use Rattle.vm_rule.specs.{declared.view.View.View, Log.did_store, Puts.put}
 use Rattle.vm_rule.specs.{Puts.put_at, Reading.last_of, Rule.no_held, Views.seat_of}
 use Rattle.vm_rule.specs.declared.view.WordPlace.TheVariants as places
 
@@ -28,7 +29,8 @@ module _ {X : Type 0} where
 
   -- ---- install
 
-  -- p is not resident and held exclusively; the frame is the pass's, and has the words of p's block where blocks tell them
+  -- p is not resident and held exclusively; the frame is the pass's, and has the words of p's block where blocks tell
+  -- them
   pub record MayPutInto (v : View X) (p f : ℕ) : Type 0 where
     pub owns : (seat_of v p).exclusive ≡ true
     pub empty : (held_at v p).mapping ≡ None

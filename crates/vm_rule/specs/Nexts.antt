@@ -21,7 +21,8 @@ module _ {X : Type 0} where
     pub holds : (x : ℕ) → v.next ≡ Some x → (seat_of v x).exclusive ≡ true
     pub risen : v.start.next ≤ found
     pub inside : found ≤ v.start.pages
-    pub zero : v.start.tells ≡ true → (p : ℕ) → found ≤ p → p < v.start.pages → (last_of w p).words ≡ replicate w.start.size 0
+    pub zero : v.start.tells ≡ true → (p : ℕ) → found ≤ p → p < v.start.pages
+        → (last_of w p).words ≡ replicate w.start.size 0
     pub since : IsLatest found v.log
 
   -- a load: who holds the next page knows that it stays the next page

@@ -1,8 +1,8 @@
--- The names of the rule of the shared table that the specifications and proofs above cite most, passed on from one place: views, places,
--- readings, what a step tells, and what the table and the owner are. Types that the machine declares stand here too,
--- since the machine's own specs
--- cannot pass them on to other crates.
-pub use Rattle.atomic_table.specs.{Seated.TableId, Table.Allows, Table.Me, Table.opening, Table.rest, Table.State as Table, Table.Step}
+-- The names of the rule of the shared table that the specifications and proofs above cite most, passed on from one
+-- place: views, places, readings, what a step tells, and what the table and the owner are. Types that the machine
+-- declares stand here too, since the machine's own specs cannot pass them on to other crates.
+pub use Rattle.atomic_table.specs.{Seated.TableId, Table.Allows, Table.Me, Table.opening}
+pub use Rattle.atomic_table.specs.{Table.rest, Table.State as Table, Table.Step}
 pub use Rattle.vm_block.specs.{declared.memory.MemBlock.MemBlock, declared.stored.Stored.Stored, Memory.stored_of}
 pub use Rattle.vm_block.specs.{Memory.words_of, Plans.most_faults}
 pub use Rattle.vm_event.specs.{declared.event.CoreShape.CoreShape, declared.event.Event.Event}
@@ -31,12 +31,14 @@ pub use Rattle.vm_rule.specs.Mappings.{InstallTold, IsWritten, MayPutInto, Stand
 pub use Rattle.vm_rule.specs.Reading.{after_releases, core_from, core_shown, first_history, frames_held, holdings}
 pub use Rattle.vm_rule.specs.Reading.{numbers_held, home, known, last_in, last_of, loads_of, no_block, out_of, out_or}
 pub use Rattle.vm_rule.specs.Reading.{page_from, pushed, seats_of, world_of}
-pub use Rattle.vm_rule.specs.Releases.{change_of, changes_of, DowngradeTold, EvictTold, next_after, ReleaseTold, without_all}
+pub use Rattle.vm_rule.specs.Releases.{change_of, changes_of, DowngradeTold, EvictTold}
+pub use Rattle.vm_rule.specs.Releases.{next_after, ReleaseTold, without_all}
 pub use Rattle.vm_rule.specs.Rule.{AreNext, ArePlain, began_of, BlocksFit, FaultsFit, HoldsNothing, is_owed}
 pub use Rattle.vm_rule.specs.Rule.{is_pending, kept_of, KnowsLists, KnowsOwner, KnowsOwners, KnowsPage, KnowsPages}
 pub use Rattle.vm_rule.specs.Rule.{no_held, PartsFit, Ruled, slot_of, snapshot_of, TieHolds, TranslationHolds}
 pub use Rattle.vm_rule.specs.Rule.{WasNext, WasWord, WereWords}
-pub use Rattle.vm_rule.specs.Slots.{DeviceDid, HomeTold, MayBring, out_at, OutTold, ReturnTold, ShiftTold, SlotTold, words_held}
+pub use Rattle.vm_rule.specs.Slots.{DeviceDid, HomeTold, MayBring, out_at, OutTold}
+pub use Rattle.vm_rule.specs.Slots.{ReturnTold, ShiftTold, SlotTold, words_held}
 pub use Rattle.vm_rule.specs.Started.{AreClaimed, AreWhole, block_words, bounds_of, counts_of, free_words, IsStarted}
 pub use Rattle.vm_rule.specs.Started.{MayBegin, started_origin, started_shape, started_words}
 pub use Rattle.vm_rule.specs.Views.{any, draft_of, Each, entries_by, first_view, Hears, IsLocking, IsWhole, loads_at}

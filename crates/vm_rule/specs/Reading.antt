@@ -1,9 +1,11 @@
 -- The words, the blocks and the views, read together: one state of the core, with the versions of its pages.
-use Rattle.std.specs.Prelude.{[], ◌*◌, ◌++◌, ◌+◌, ◌==◌, ◌∷◌, Bool, if◌then◌else◌, length, List, nat_lt, None, Option, replicate, Some, ℕ}
+use Rattle.std.specs.Prelude.{[], ◌*◌, ◌++◌, ◌+◌, ◌==◌, ◌∷◌, Bool, if◌then◌else◌}
+use Rattle.std.specs.Prelude.{length, List, nat_lt, None, Option, replicate, Some, ℕ}
 use mathlib.Core.Option as maybe
 use Rattle.atomic_table.specs.Table.{State as Table}
 use Rattle.vm_block.specs.declared.stored.Stored.{Stored}
-use Rattle.vm_event.specs.Prelude.{at, History, mapping_of, outside_page, Page, State, state_of, Version, version_of, World}
+use Rattle.vm_event.specs.Prelude.{at, History, mapping_of, outside_page, Page}
+use Rattle.vm_event.specs.Prelude.{State, state_of, Version, version_of, World}
 use Rattle.vm_event.specs.declared.event.Seat.{Seat}
 use Rattle.vm_owner.specs.Numbers.{has}
 use Rattle.vm_rule.specs.{declared.view.Origin.Origin, declared.view.Out.Out, declared.view.Release.Release}

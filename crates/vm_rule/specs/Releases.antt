@@ -1,7 +1,8 @@
 -- What a release tells: the draft is the next version. The first release of a group makes the drafts of all its
 -- members logical. A page that
 -- is not resident is released as evicted.
-use Rattle.std.specs.Prelude.{[], ◌&&◌, ◌++◌, ◌+◌, ◌==◌, ◌∷◌, ◌≡◌, false, if◌then◌else◌, List, None, Option, Some, true, ℕ}
+use Rattle.std.specs.Prelude.{[], ◌&&◌, ◌++◌, ◌+◌, ◌==◌, ◌∷◌, ◌≡◌, false}
+use Rattle.std.specs.Prelude.{if◌then◌else◌, List, None, Option, Some, true, ℕ}
 use Rattle.vm_event.specs.Prelude.{EVICTED, word_of}
 use Rattle.vm_numbers.specs.Hands.{all_zero, freed_of}
 use Rattle.vm_owner.specs.{Kept.Change, Numbers.has, Numbers.without}
@@ -51,7 +52,8 @@ module _ {X : Type 0} where
         mine = v.mine ++ entries_of v said;
       }
 
-  -- a release: the draft is the next version; as the first of a group it makes the others' drafts logical, and they are pending
+  -- a release: the draft is the next version; as the first of a group it makes the others' drafts logical, and they
+  -- are pending
   pub record ReleaseTold (p version : ℕ) (rest : List ℕ) (said : Option X) (v w : View X) : Type 0 where
     pub brings : Brings (did_store (places.State p) (version + 1)) (record { page = p; version = version + 1; words = draft_of v p } ∷ [])
         (entries_of v said) v (released_view p rest said v) w

@@ -1,4 +1,5 @@
--- The rule of the running table: what holds of its words, its blocks and the views of its passes between any two steps of any threads.
+-- The rule of the running table: what holds of its words, its blocks and the views of its passes between any two
+-- steps of any threads.
 use Rattle.std.specs.Prelude.{[], ◌++◌, ◌+◌, ◌<◌, ◌∷◌, ◌≡◌, ◌≢◌, ◌≤◌, ◌⊎◌, Bool, false, if◌then◌else◌, IsSome, length}
 use Rattle.std.specs.Prelude.{List, None, Option, replicate, Some, true, ℕ}
 use mathlib.Core.Option as maybe
@@ -16,7 +17,8 @@ use Rattle.vm_rule.specs.{declared.view.Out.Out, declared.view.Release.Release, 
 use Rattle.vm_rule.specs.{declared.view.Tie.Tie, declared.view.Translation.Translation, declared.view.View.View}
 use Rattle.vm_rule.specs.{Layout.at_next, Layout.at_state, Layout.table_words, Layout.width, Puts.chosen, Puts.listed}
 use Rattle.vm_rule.specs.{Puts.put_at}
-use Rattle.vm_rule.specs.Reading.{block_of, core_shown, histories_of, home, last_in, last_of, no_block, out_of, world_of}
+use Rattle.vm_rule.specs.Reading.{block_of, core_shown, histories_of, home, last_in}
+use Rattle.vm_rule.specs.Reading.{last_of, no_block, out_of, world_of}
 use Rattle.vm_rule.specs.Views.{any, draft_of, Each, entries_by, Hears, IsLocking, IsWhole, may_call, one_part, owns}
 use Rattle.vm_rule.specs.Views.{PARTS, seat_of, spent, StartsWith, times_noted, total}
 
@@ -41,7 +43,8 @@ pub record KnowsPage (seat : Seat) (h : Held) (r : Page) : Type 0 where
   pub calls : may_call seat ≡ true → (h.mapping ≡ r.trans) × (h.fault ≡ r.fault) × (h.block.words ≡ r.block) × (h.block.count ≡ r.count)
   pub shares : 1 ≤ seat.shares → frame_of h.mapping ≡ frame_of r.trans
 
--- of a page whose device the pass may call, and that stands in a frame, it knows the frame's owner word; and so of each page
+-- of a page whose device the pass may call, and that stands in a frame, it knows the frame's owner word; and so of
+-- each page
 abbrev pub KnowsOwner : (ℕ → ℕ) → Seat → Held → Type 0
 KnowsOwner owners seat h = (m : Mapping) → may_call seat ≡ true → h.mapping ≡ Some m → h.owner ≡ owners m.frame
 
@@ -60,8 +63,8 @@ TranslationHolds pages t =
     → stands_dirty (pages t.page).trans ≡ true
     → stands_dirty (mapping_of t.word) ≡ true)
 
--- the word was the page's once: the page's version is no lower; where the word said that it can't be read, it can't be at that version; and
--- at that version it is evicted only where the word said so
+-- the word was the page's once: the page's version is no lower; where the word said that it can't be read, it can't
+-- be at that version; and at that version it is evicted only where the word said so
 abbrev pub WasWord : Page → Option ℕ → Type 0
 WasWord r None = Unit {0}
 WasWord r (Some word) =
@@ -98,7 +101,8 @@ ArePlain start words = (p : ℕ) → p < start.pages → (table_words start word
 abbrev pub began_of : Origin → Start
 began_of start = record { pages = start.contents; next = start.next; free = start.free }
 
--- the logical words of page p: its draft, where it is a member still to be released of a group that was released in part
+-- the logical words of page p: its draft, where it is a member still to be released of a group that was released in
+-- part
 unfoldable pub logical : (ℕ → History) → (ℕ → Bool) → ℕ → List ℕ
 logical histories pending p = if pending p then (histories p).draft else (histories p).last.words
 
@@ -143,7 +147,8 @@ module _ {X : Type 0} where
   -- what the pass knows of the lists that all passes share
   pub record KnowsLists (start : Origin) (releases : List Release) (history : List (Entry X)) (v : View X) : Type 0 where
     pub same_start : v.start ≡ start
-    -- both lists begin with what the pass has seen of them, and what it has not seen of the history has none of its numbers
+    -- both lists begin with what the pass has seen of them, and what it has not seen of the history has none of its
+    -- numbers
     pub saw : StartsWith releases v.releases
     pub heard : Hears history v.used v.seen
     -- so do they with what it learned by a join; the numbers from which it learned it are its own
@@ -185,7 +190,8 @@ module _ {X : Type 0} where
   pub record FaultsFit (pages : ℕ → Page) (views : List (View X)) : Type 0 where
     pub below : (p : ℕ) → (pages p).fault ≤ (pages p).count
     pub capped : (p : ℕ) → (pages p).count ≤ MAX_COUNT
-    pub noted : (j : ℕ) (v : View X) → get_elem? views j ≡ maybe.some v → (p count : ℕ) → 1 ≤ times_noted p count v.notes →
+    pub noted : (j : ℕ) (v : View X) → get_elem? views j ≡ maybe.some v → (p count : ℕ)
+        → 1 ≤ times_noted p count v.notes →
         (1 ≤ count) × (count ≤ (pages p).fault)
     pub once : (p count : ℕ) → count ≢ MAX_COUNT → total (λ v. times_noted p count v.notes) views ≤ 1
 
@@ -199,7 +205,8 @@ module _ {X : Type 0} where
     pub counted : AreCounted (λ _. 0) history
     pub rises : AreNext start [] releases
 
-  -- the parts: each stands in one view; a view that is spent has none and holds nothing; a whole pass that has made a step knows the table
+  -- the parts: each stands in one view; a view that is spent has none and holds nothing; a whole pass that has made a
+  -- step knows the table
   pub record PartsFit (releases : List Release) (history : List (Entry X)) (snapshot : Snapshot) (views : List (View X)) : Type 0 where
     pub parts : (k : ℕ) → total (owns k) views ≡ one_part k
     pub spent : (j : ℕ) (v : View X) → get_elem? views j ≡ maybe.some v → v.live ≡ false → v ≡ spent
@@ -223,7 +230,8 @@ module _ {X : Type 0} where
     -- ---- the rule
 
     module _ (keeps : Start → Kept X → Type 0) (tied : Start → ℕ → List ℕ → ℕ → List ℕ → Type 0) (start : Origin) where
-      -- the releases so far, in order; the history so far, in order; the drafts of the pages that are locked exclusively
+      -- the releases so far, in order; the history so far, in order; the drafts of the pages that are locked
+      -- exclusively
       pub record Ruled (tells : Bool) (s : Table (Option B) (View X)) : Type 0 where
         pub releases : List Release
         pub history : List (Entry X)
@@ -242,7 +250,8 @@ module _ {X : Type 0} where
         pub zero : start.tells ≡ true → (p : ℕ) → (core_shown stored start s).next ≤ p → p < start.pages →
             (histories_of start releases drafts p).last.words ≡ replicate start.size 0
         -- page numbers: each stands in one place at most, and what that says of its page's words
-        pub numbers : start.tells ≡ true → NumbersFit (has_free_bit (core_shown stored start s).spares) (core_shown stored start s).next
+        pub numbers : start.tells ≡ true
+            → NumbersFit (has_free_bit (core_shown stored start s).spares) (core_shown stored start s).next
             (λ p. (histories_of start releases drafts p).last.words)
             (logical (histories_of start releases drafts) (is_pending s.views)) (map hands_of s.views)
         -- a bit of a free-number word that is set is a page's, whether or not the blocks tell
@@ -251,7 +260,8 @@ module _ {X : Type 0} where
         pub faults : FaultsFit (core_shown stored start s).pages s.views
         pub lists : ListsFit start releases history s.views
         pub parts : PartsFit releases history (snapshot_of start s) s.views
-        pub heard : (j : ℕ) (v : View X) → get_elem? s.views j ≡ maybe.some v → v.live ≡ true → KnowsLists start releases history v
+        pub heard : (j : ℕ) (v : View X) → get_elem? s.views j ≡ maybe.some v → v.live ≡ true
+            → KnowsLists start releases history v
         pub known : (j : ℕ) (v : View X) → get_elem? s.views j ≡ maybe.some v → v.live ≡ true →
             KnowsPages tied start (world_of stored start releases drafts s) (is_pending s.views) v
         -- the layer above keeps its relation

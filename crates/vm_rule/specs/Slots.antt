@@ -1,5 +1,6 @@
--- What the moves of a page's block tell. Each is two loads of the page's fault word: at the first the slot goes to the pass, at the second
--- it is back. A block that is taken out leaves its slot empty; one that comes home may have had one call of its device.
+-- What the moves of a page's block tell. Each is two loads of the page's fault word: at the first the slot goes to
+-- the pass, at the second it is back. A block that is taken out leaves its slot empty; one that comes home may have
+-- had one call of its device.
 use Rattle.std.specs.Prelude.{[], ◌≡◌, Bool, false, if◌then◌else◌, IsSome, List, None, Some, true, ℕ}
 use Rattle.vm_block.specs.declared.stored.Stored.{Stored}
 use Rattle.vm_event.specs.Prelude.{at, count_more}

@@ -2,7 +2,8 @@
 use Rattle.std.specs.Prelude.{[], ◌++◌, ◌<◌, ◌∷◌, ◌≡◌, ◌≤◌, true, ℕ}
 use Rattle.vm_event.specs.Prelude.{MAX_VERSION}
 use Rattle.vm_owner.specs.{Kept.AreCounted, Numbers.AreApart, Numbers.has}
-use Rattle.vm_rule.specs.{declared.view.View.View, Reading.last_of, Rule.AreNext, Views.Each, Views.entries_by, Views.PARTS}
+use Rattle.vm_rule.specs.{declared.view.View.View, Reading.last_of, Rule.AreNext}
+use Rattle.vm_rule.specs.{Views.Each, Views.entries_by, Views.PARTS}
 
 -- its own entries are those of its numbers; a fresh part has none; its parts are apart; entries have numbers of
 -- parts, counted for each; its

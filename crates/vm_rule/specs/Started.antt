@@ -1,4 +1,5 @@
--- The opening of a pool's table: every page is evicted, with its words in its block; every frame is free; every block is at home.
+-- The opening of a pool's table: every page is evicted, with its words in its block; every frame is free; every block
+-- is at home.
 use Rattle.std.specs.Prelude.{[], ◌%◌, ◌*◌, ◌++◌, ◌/◌, ◌<◌, ◌^◌, ◌∷◌, ◌≡◌, ◌≤◌, bit_or, Bool, if◌then◌else◌, length}
 use Rattle.std.specs.Prelude.{List, map, replicate, true, ℕ}
 use Rattle.vm_block.specs.declared.stored.Stored.{Stored}
@@ -98,7 +99,8 @@ abbrev pub AreClaimed : ℕ → List ℕ → Type 0
 AreClaimed next free = (p : ℕ) → has p free ≡ true → p < next
 
 module _ {X : Type 0} where
-  -- the pages from the next one on are zero, and so are those whose numbers are free; and the layer above may begin with all of them
+  -- the pages from the next one on are zero, and so are those whose numbers are free; and the layer above may begin
+  -- with all of them
   pub record MayBegin (keeps : Start → Kept X → Type 0) (next : ℕ) (free : List ℕ) (pages : List (List ℕ)) : Type 0 where
     pub zero : (p : ℕ) → next ≤ p → p < length pages → page_at pages p ≡ replicate (length (page_at pages p)) 0
     pub spare : (p : ℕ) → has p free ≡ true → all_zero (page_at pages p) ≡ true

@@ -1,4 +1,5 @@
--- Beside a pass with all parts every other pass has none, so it holds nothing; and what it has still to release, or owes, it would hold.
+-- Beside a pass with all parts every other pass has none, so it holds nothing; and what it has still to release, or
+-- owes, it would hold.
 use Rattle.std.proofs.Common.{[], ⊎_elim, ◌∙◌, ◌∷◌, ◌≡◌, ◌≢◌, ◌≤◌, ap, arith, Bool, false, List, Option, refl, subst}
 use Rattle.std.proofs.Common.{sym, true, true≢false, ℕ}
 use Rattle.std.proofs.lemmas.Bool.{cases_Bool, eq-eqb}
@@ -28,7 +29,8 @@ module _ {X B : Type 0} (stored : B → Stored) (keeps : Start → Kept X → Ty
       )
 
   -- a live pass without a part has nothing
-  without-parts : (j : ℕ) (u : View X) → get_elem? s.views j ≡ some u → u.live ≡ true → ((k : ℕ) → 1 ≤ owns k u → ⊥) → HasNothing u
+  without-parts : (j : ℕ) (u : View X) → get_elem? s.views j ≡ some u → u.live ≡ true → ((k : ℕ) → 1 ≤ owns k u → ⊥)
+      → HasNothing u
   without-parts j u there on none =
       let used : u.used ≡ [] = no-times u.used (λ n l. none n (more-left (times n u.used) (times n u.fresh) l)) in
       let fresh : u.fresh ≡ [] = no-times u.fresh (λ n l. none n (more-right (times n u.used) (times n u.fresh) l)) in

@@ -1,5 +1,6 @@
 -- A table stands by its rule, or its first pass has not begun: and then no pass lives.
-use Rattle.std.proofs.Common.{[], ⊎_elim, ◌∙◌, ◌∷◌, ◌≡◌, ap, Bool, List, Option, subst, suc, sym, true, true≢false, zero, ℕ}
+use Rattle.std.proofs.Common.{[], ⊎_elim, ◌∙◌, ◌∷◌, ◌≡◌, ap, Bool, List}
+use Rattle.std.proofs.Common.{Option, subst, suc, sym, true, true≢false, zero, ℕ}
 use mathlib.Core.Option as maybe
 use Rattle.vm_rule.specs.from_vm_event.Prelude.{get_elem?, some, some-injective}
 use Rattle.vm_rule.specs.Prelude.{HasShape, Kept, Ruled, spread_table, Stands, Start, Stored, Table, unborn}

@@ -1,9 +1,11 @@
--- Every entry has the number of a part, and a pass that has all parts has used each number that an entry has: all entries are its own.
+-- Every entry has the number of a part, and a pass that has all parts has used each number that an entry has: all
+-- entries are its own.
 use Rattle.std.proofs.Common.{[], ⊎_elim, ◌++◌, ◌+◌, ◌<◌, ◌∙◌, ◌∷◌, ◌≡◌, ◌≤◌, ap, arith, Bool, false, length, List}
 use Rattle.std.proofs.Common.{Option, refl, subst, suc, sym, true, true≢false, ℕ}
 use Rattle.std.proofs.lemmas.Bool.{cases_Bool, cases_eq, cases_lt, eq-eqb, ne_eqb}
 use Rattle.std.proofs.lemmas.List.{append-nil}
-use Rattle.vm_rule.specs.Prelude.{Each, entries_by, Entry, has, IsWhole, Kept, KnowsLists, PARTS, Ruled, Start, Stored, Table, times}
+use Rattle.vm_rule.specs.Prelude.{Each, entries_by, Entry, has, IsWhole, Kept, KnowsLists}
+use Rattle.vm_rule.specs.Prelude.{PARTS, Ruled, Start, Stored, Table, times}
 use Rattle.vm_rule.specs.{declared.view.Origin.Origin, declared.view.View.View}
 use Rattle.vm_rule.proofs.Entries.{mine-in}
 use Rattle.vm_rule_laws.specs.Known.{IsWholePass}

@@ -1,4 +1,5 @@
--- A pass with all parts that has made a step knows the table: the core from its snapshot, and what the layer above keeps.
+-- A pass with all parts that has made a step knows the table: the core from its snapshot, and what the layer above
+-- keeps.
 use Rattle.std.proofs.Common.{[], ⊎_elim, ◌++◌, ◌<◌, ◌∙◌, ◌≡◌, ◌≢◌, ap, Bool, false, List, Option, refl, subst, suc}
 use Rattle.std.proofs.Common.{sym, true, true≢false, zero, ℕ}
 use Rattle.std.proofs.lemmas.Bool.{cases_Bool, cases_eq, cases_lt}
@@ -26,7 +27,8 @@ pages-same pages r blocks blocks' seats same =
     (cases_lt p pages))
 
 -- the logical words of a page that is no member still to be released
-logical-last : (h : ℕ → History) (members : ℕ → Bool) (p : ℕ) → members p ≡ false → logical h members p ≡ (h p).last.words
+logical-last : (h : ℕ → History) (members : ℕ → Bool) (p : ℕ) → members p ≡ false
+    → logical h members p ≡ (h p).last.words
 unfolding logical
 logical-last h members p e = rw e refl
 

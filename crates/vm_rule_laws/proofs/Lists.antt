@@ -1,4 +1,5 @@
--- The lists of releases and of entries are those of the table: some pass has seen all of each, and no pass has seen more than is there.
+-- The lists of releases and of entries are those of the table: some pass has seen all of each, and no pass has seen
+-- more than is there.
 use Rattle.std.proofs.Common.{[], ⊎_elim, ◌++◌, ◌+◌, ◌∙◌, ◌∷◌, ◌≡◌, ◌⊎◌, ap, arith, Bool, false, length, List, Option}
 use Rattle.std.proofs.Common.{refl, subst, sym, true, ℕ}
 use Rattle.std.proofs.lemmas.Bool.{cases_Bool}
@@ -48,7 +49,8 @@ module _ {X B : Type 0} (stored : B → Stored) (keeps : Start → Kept X → Ty
       (λ j v there on. let k = other.heard j v there on in ((k.heard.0, k.heard.1), (k.told.1.0, k.told.1.1)))
       r.parts.spent refl refl r.lists.longest
 
-  pub lists-one : (r other : Ruled stored keeps tied start tells s) → (r.releases ≡ other.releases) × (r.history ≡ other.history)
+  pub lists-one : (r other : Ruled stored keeps tied start tells s)
+      → (r.releases ≡ other.releases) × (r.history ≡ other.history)
   lists-one r other = (
     begin-both r.releases other.releases (releases-begin other r) (releases-begin r other),
     begin-both r.history other.history (history-begins other r) (history-begins r other),

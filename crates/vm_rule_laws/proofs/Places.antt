@@ -103,7 +103,8 @@ read-back start (places.Spare g) l =
     ∙ above _ k (3 * start.pages + start.size * start.frames + bundle_count start + 2 + start.frames) (omega arith)
     ∙ ap places.Spare (omega arith)
 
-pub places-apart : (start : Origin) (w x : WordPlace) → Within start w → Within start x → index_of start w ≡ index_of start x → w ≡ x
+pub places-apart : (start : Origin) (w x : WordPlace) → Within start w → Within start x
+    → index_of start w ≡ index_of start x → w ≡ x
 places-apart start w x lw lx same = sym (read-back start w lw) ∙ ap (place_at start) same ∙ read-back start x lx
 
 pub places-inside : (start : Origin) (w : WordPlace) → Within start w → index_of start w < width start

@@ -1,8 +1,10 @@
--- Where the pages' last words stand follows from the core's invariant, read off the snapshot of a pass beside which no other holds a page.
+-- Where the pages' last words stand follows from the core's invariant, read off the snapshot of a pass beside which
+-- no other holds a page.
 use Rattle.std.proofs.Common.{[], ⊎_elim, ◌<◌, ◌∙◌, ◌∷◌, ◌≡◌, ◌≢◌, ap, arith, Bool, false, length, List, Option, refl}
 use Rattle.std.proofs.Common.{subst, suc, sym, true≢false, zero, ℕ}
 use Rattle.std.proofs.lemmas.Bool.{cases_eq, cases_lt}
-use Rattle.vm_rule.specs.from_vm_event.Prelude.{at, get_elem?, LOCKED, OneHolder, Page, PageInv, some, state_of, Version}
+use Rattle.vm_rule.specs.from_vm_event.Prelude.{at, get_elem?, LOCKED, OneHolder, Page}
+use Rattle.vm_rule.specs.from_vm_event.Prelude.{PageInv, some, state_of, Version}
 use Rattle.vm_rule.specs.Prelude.{block_of, frame_words, histories_of, HoldsNothing, Kept, last_in, loads_of}
 use Rattle.vm_rule.specs.Prelude.{no_block, page_from, Ruled, seat_of, seats_of, snapshot_of, spent, Start, Stored}
 use Rattle.vm_rule.specs.Prelude.{Table, table_words}

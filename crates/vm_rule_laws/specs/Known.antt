@@ -22,8 +22,9 @@ module _ {X : Type 0} where
   core_in start snapshot views = core_from start (length views) (table_words start snapshot.words)
       (at no_block snapshot.blocks) (seats_of views) (frames_held views) (numbers_held views)
 
-  -- what the layer above keeps, as the pass knows it: the pages with their last words, the next word, the pages that the pass owes, the
-  -- page numbers that are free, that it holds and has still to give, and the history that it has seen
+  -- what the layer above keeps, as the pass knows it: the pages with their last words, the next word, the pages that
+  -- the pass owes, the page numbers that are free, that it holds and has still to give, and the history that it has
+  -- seen
   abbrev pub kept_by : View X → Kept X
   kept_by v =
       record {

@@ -12,8 +12,8 @@ ghost use Rattle.vm_rule_laws.specs.Known.{HasStepped, IsWholePass, kept_by, Kno
 use vm_rule::block::Block;
 use vm_rule::owner::Owner;
 
-/// Where a pass of a table lives, the table as its pages read it meets the rule, from the start that its shape has for proofs: what a table keeps between steps
-/// has one other case, that its first pass has not begun.
+/// Where a pass of a table lives, the table as its pages read it meets the rule, from the start that its shape has for
+/// proofs: what a table keeps between steps has one other case, that its first pass has not begun.
 pub fn a_live_pass_meets_the_rule<U: Owner, B: Block>()
     ensures { (shape : TableShape) (s : Table (Option B) (View U.Said)) → Stands B.stored U.keeps U.tied shape B.tells s → (id : ℕ) (v : View U.Said)
         → get_elem? s.views id ≡ some v → v.live ≡ true → HasShape shape shape.began.origin × Ruled B.stored U.keeps U.tied shape.began.origin B.tells (spread_table shape.began.origin s) }

@@ -1,5 +1,7 @@
--- What a pass that is alone knows after its steps: each place of the table has the word that was left there last, or the one that it had.
-use Rattle.vm_step.proofs.{Tables.follows-between, Tables.follows-kept, Tables.follows-length, Tables.index-same, Written.index-below}
+-- What a pass that is alone knows after its steps: each place of the table has the word that was left there last, or
+-- the one that it had.
+use Rattle.vm_step.proofs.{Tables.follows-between, Tables.follows-kept, Tables.follows-length}
+use Rattle.vm_step.proofs.{Tables.index-same, Written.index-below}
 use Rattle.vm_step.proofs.Prelude.{[], ap, arith, cases_eq, Did, Each, Follows, get_or-set_same, index_of, inl, inr}
 use Rattle.vm_step.proofs.Prelude.{IsAlone, known_word_at, KnowsAfter, LeavesLast, length, List, None, Origin}
 use Rattle.vm_step.proofs.Prelude.{Release, RunsAlone, set_if, slice_index, slice_set, subst, sym, View, width}
@@ -61,7 +63,8 @@ module _ {X : Type 0} where
       ∙ ap width (sym start)
 
   -- and, at each place, the word that was left there last, or the one that it knew
-  pub knows-after : (done : List Did) (own : List Release) (v w : View X) → w.start ≡ v.start → RunsAlone done own v w → KnowsAfter done v w
+  pub knows-after : (done : List Did) (own : List Release) (v w : View X) → w.start ≡ v.start
+      → RunsAlone done own v w → KnowsAfter done v w
   knows-after done own v w start r = record {
     kept = λ a at l none. now at ∙ follows-kept v.start at done v.snapshot.words w.snapshot.words (r.words a.0 a.1)
         (away v.start at done l r.inside none);
@@ -72,7 +75,8 @@ module _ {X : Type 0} where
       now : (at : WordPlace) → known_word_at w at ≡ slice_index w.snapshot.words (index_of v.start at)
       now at = ap (λ (o : Origin). slice_index w.snapshot.words (index_of o at)) start
 
-      known : {at : WordPlace} → {word : ℕ} → IsAlone v → LeavesLast done at word → length v.snapshot.words ≡ width v.start
+      known : {at : WordPlace} → {word : ℕ} → IsAlone v → LeavesLast done at word
+          → length v.snapshot.words ≡ width v.start
       known a last = ⊎_elim (λ none.
           absurd (some-step last.written.earlier last.written.step last.written.later (sym none ∙ last.written.cut)))
           (λ long. long) (r.wide a.0 a.1)

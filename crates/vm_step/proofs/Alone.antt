@@ -12,7 +12,8 @@ follows-then start [] b x y z f g = subst (λ (t : List ℕ). Follows start b t 
 follows-then start (d ∷ ds) b x y z f g = (f.0, follows-then start ds b (set_if d.wrote (index_of start d.at) x) y z f.1 g)
 
 -- a place where no word was written
-pub set-else : (o : Option ℕ) (i j : ℕ) (ws : List ℕ) → (o ≡ None) ⊎ (j ≢ i) → slice_index (set_if o i ws) j ≡ slice_index ws j
+pub set-else : (o : Option ℕ) (i j : ℕ) (ws : List ℕ) → (o ≡ None) ⊎ (j ≢ i)
+    → slice_index (set_if o i ws) j ≡ slice_index ws j
 set-else o i j ws h = grind (arith, get_or-set_other)
 
 -- steps, and then more: a table that is known whole before the first of them is known so before all
@@ -26,7 +27,8 @@ wide-then (d ∷ ds) b start x y f g h =
 
 module _ {X : Type 0} where
   -- a pass that is alone is so after steps that leave its parts
-  pub still-alone : (v w : View X) → (w.used ≡ v.used) × (w.fresh ≡ v.fresh) → (v.current ≡ true → w.current ≡ true) → IsAlone v → IsAlone w
+  pub still-alone : (v w : View X) → (w.used ≡ v.used) × (w.fresh ≡ v.fresh) → (v.current ≡ true → w.current ≡ true)
+      → IsAlone v → IsAlone w
   still-alone v w parts current a = (whole-then v w parts a.0, current a.1)
 
   -- where two views show the same words, they show the same one at each place

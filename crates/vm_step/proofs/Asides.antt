@@ -34,7 +34,8 @@ module _ {X : Type 0} where
   whole-then u v parts all k l = subst (λ ns. 1 ≤ times k ns + times k v.fresh) (sym parts.0)
       (subst (λ ns. 1 ≤ times k u.used + times k ns) (sym parts.1) (all k l))
 
-  pub alone-then : (u v w : View X) → (v.used ≡ u.used) × (v.fresh ≡ u.fresh) → StaysAlone u v → StaysAlone v w → StaysAlone u w
+  pub alone-then : (u v w : View X) → (v.used ≡ u.used) × (v.fresh ≡ u.fresh) → StaysAlone u v → StaysAlone v w
+      → StaysAlone u w
   alone-then u v w parts f g = record {
     current = λ e. g.current (f.current e);
     words = λ all e q. g.words (whole-then u v parts all) (f.current e) q ∙ f.words all e q;

@@ -1,4 +1,5 @@
--- The moves of a page's block among more steps: steps that are not on its fault word move it not, in front of others and behind them.
+-- The moves of a page's block among more steps: steps that are not on its fault word move it not, in front of others
+-- and behind them.
 use Rattle.vm_rule.specs.declared.view.WordPlace.TheVariants as places
 use Rattle.vm_step.proofs.Device.{two-loads}
 use Rattle.vm_step.proofs.Prelude.{[], ap, append_assoc, Bool, Did, Each, each-both, false, false≢true, GoesOnce, inl}

@@ -49,7 +49,8 @@ written-behind a b at word h =
     }
 
 -- of steps one after another just those of the first and of the second left a word there
-pub leaves-both : (at : WordPlace) (xs ys a b : List Did) → LeavesOnly at xs a → LeavesOnly at ys b → LeavesOnly at (xs ++ ys) (a ++ b)
+pub leaves-both : (at : WordPlace) (xs ys a b : List Did) → LeavesOnly at xs a → LeavesOnly at ys b
+    → LeavesOnly at (xs ++ ys) (a ++ b)
 leaves-both at [] [] a b f g = each-both (λ (d : Did). d.at ≡ at → d.wrote ≡ None) a b f g
 leaves-both at [] (y ∷ ys) a b f g = (
   a ++ g.0,
@@ -68,7 +69,8 @@ leaves-both at (x ∷ xs) ys a b f g = (
 )
 
 -- steps behind that left no word there
-pub leaves-front : (at : WordPlace) (xs a b : List Did) → LeavesOnly at xs a → WritesNone at b → LeavesOnly at xs (a ++ b)
+pub leaves-front : (at : WordPlace) (xs a b : List Did) → LeavesOnly at xs a → WritesNone at b
+    → LeavesOnly at xs (a ++ b)
 leaves-front at xs a b f g = subst (λ (ds : List Did). LeavesOnly at ds (a ++ b)) (append-none xs) (leaves-both at xs [] a b f g)
 
 -- ---- what a view holds after a step
@@ -96,5 +98,6 @@ pub first-or : (first : Option ℕ) (p : ℕ) → option_or first (Some p) ≡ f
 first-or first p = grind arith
 
 -- a state of 8 bits that is none of three is that of a page that somebody has locked
-pub held-state : (word : ℕ) → state_of word < 256 → state_of word ≢ 255 → state_of word ≢ 0 → state_of word ≢ 254 → IsHeld word
+pub held-state : (word : ℕ) → state_of word < 256 → state_of word ≢ 255 → state_of word ≢ 0 → state_of word ≢ 254
+    → IsHeld word
 held-state word l a b c = (omega (arith, b), omega (arith, l, a, c))

@@ -96,7 +96,8 @@ module _ {X B : Type 0} (stored : B → Stored) (keeps : Start → Kept X → Ty
       (cases_eq finding_at expects)
 
   -- the same of one that says nothing
-  pub exchange-tells : (drafts : ℕ → List ℕ) (inner : View X) (e : Event) → actor_of e ≡ id → Legal (core_shown stored start s) e
+  pub exchange-tells : (drafts : ℕ → List ℕ) (inner : View X) (e : Event) → actor_of e ≡ id
+      → Legal (core_shown stored start s) e
       → (finding_at ≡ expects → Shows stored keeps tied start tells s r id v (slice_set s.words (index_of start at) x)
       drafts [] [] exchange_did inner e)
       → (finding_at ≢ expects → world_after (world stored keeps tied start tells s r) e ≡ world stored keeps tied start tells s r)
@@ -144,7 +145,8 @@ owner_at owners None = 0
 owner_at owners (Some m) = owners m.frame
 
 -- who knows it of the page's frame knows it of the frame that the page is said to stand in
-pub knows-owner : (owners : ℕ → ℕ) (seat : Seat) (h : Held) → h.owner ≡ owner_at owners h.mapping → KnowsOwner owners seat h
+pub knows-owner : (owners : ℕ → ℕ) (seat : Seat) (h : Held) → h.owner ≡ owner_at owners h.mapping
+    → KnowsOwner owners seat h
 knows-owner owners seat h is m calls at = is ∙ ap (owner_at owners) at
 
 module _ {X B : Type 0} (stored : B → Stored) (keeps : Start → Kept X → Type 0)
@@ -171,8 +173,8 @@ module _ {X B : Type 0} (stored : B → Stored) (start : Origin) (s : Table (Opt
   old = world_of stored start releases drafts s
 
   -- The exchange of the word expected for x is the event, which may happen. Where it is taken, the event leads to the
-  -- world that the table shows
-  -- then, with these drafts and any view that has of the pages what `inner` has, and the page is `y`; where it is lost, to the same world.
+  -- world that the table shows then, with these drafts and any view that has of the pages what `inner` has, and the
+  -- page is `y`; where it is lost, to the same world.
   pub record IsExchange (p expects x : ℕ) (drafts' : ℕ → List ℕ) (inner : View X) (e : Event) (y : Page) : Type 0 where
     pub legal : Legal old.core e
     pub leads : (w : View X) → w.out ≡ inner.out → holdings w ≡ holdings inner → w.seats ≡ inner.seats
@@ -302,7 +304,8 @@ module _ {X B : Type 0} (stored : B → Stored) (keeps : Start → Kept X → Ty
     pub older : IsOlder (slice_index s.words p) (seat_of v p).reading
     pub size : length (last_of w p).words ≡ w.start.size
 
-  -- so it tells, where it is an event, and shows what is to be shown of it when it is taken; and then its view is the one after that step
+  -- so it tells, where it is an event, and shows what is to be shown of it when it is taken; and then its view is the
+  -- one after that step
   pub tried-says : (es : Bool → List (Entry X)) → es false ≡ [] → (drafts : ℕ → List ℕ) (inner : View X) (e : Event)
       (y : Page) → actor_of e ≡ id → {known : View X} → IsExchange stored start s r.releases r.drafts id p expects x
       drafts known e y
@@ -417,7 +420,8 @@ module _ {X B : Type 0} (stored : B → Stored) (keeps : Start → Kept X → Ty
         false_from_ne_true (has p v.owed) (λ t. true≢false (sym ((r.known id v there live).owed p t).0 ∙ free-owner))
 
     module _ (none : share_count ((world stored keeps tied start tells s r).core.pages p).state ≡ 0) where
-      shares-none : (a : ℕ) → a < length s.views → (((world stored keeps tied start tells s r).core.pages p).seats a).shares ≡ 0
+      shares-none : (a : ℕ) → a < length s.views
+          → (((world stored keeps tied start tells s r).core.pages p).seats a).shares ≡ 0
       shares-none a la =
           let y : Page = (world stored keeps tied start tells s r).core.pages p in
           let below : (y.seats a).shares ≤ sum_below (length s.views) (λ b. (y.seats b).shares) =
@@ -471,7 +475,8 @@ module _ {X B : Type 0} (stored : B → Stored) (keeps : Start → Kept X → Ty
           })
 
 -- the view with these seats, loads, pages known and drafts
-abbrev pub locking : {X : Type 0} → View X → List (Put Seat) → List (Put (List (ℕ × ℕ))) → List (Put Held) → List (Put (List ℕ)) → View X
+abbrev pub locking : {X : Type 0} → View X → List (Put Seat) → List (Put (List (ℕ × ℕ))) → List (Put Held)
+    → List (Put (List ℕ)) → View X
 locking v seats loads held drafts = record v { seats = seats; loads = loads; held = held; drafts = drafts }
 
 module _ {X B : Type 0} (stored : B → Stored) (keeps : Start → Kept X → Type 0)
@@ -599,7 +604,8 @@ module _ {X B : Type 0} (stored : B → Stored) (keeps : Start → Kept X → Ty
 
 module _ {X B : Type 0} (stored : B → Stored) (start : Origin) (keeps : Start → Kept X → Type 0)
     (tied : Start → ℕ → List ℕ → ℕ → List ℕ → Type 0) (tells : Bool) (s : Table (Option B) (View X)) (id p : ℕ) where
-  -- what an exchange on a page's state word tells, of a kind whose view where it was taken is `inner`: the event is this one
+  -- what an exchange on a page's state word tells, of a kind whose view where it was taken is `inner`: the event is
+  -- this one
   pub exchange-event : {es : List (Entry X)} → (expects found x : ℕ) (drafts : ℕ → List ℕ) (did : Did)
       (v inner w : View X) (e : Event) (z : Page) → IsPassOf stored start keeps tied tells s id v
       → FindsAt start s (places.State p) found

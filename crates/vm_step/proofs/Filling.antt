@@ -78,7 +78,8 @@ module _ {X : Type 0} (f : ℕ) where
         rest.notes ∙ ap (λ (y : View X). y.notes) b.view,
       )
 
-  fills-contents : (i : ℕ) (xs : List ℕ) (v w : View X) → Stores f i xs v w → contents_at w f ≡ written i xs (contents_at v f)
+  fills-contents : (i : ℕ) (xs : List ℕ) (v w : View X) → Stores f i xs v w
+      → contents_at w f ≡ written i xs (contents_at v f)
   unfolding written
   fills-contents i [] v w s = ap (λ (y : View X). contents_at y f) s
   fills-contents i (x ∷ xs) v w s =
@@ -88,16 +89,19 @@ module _ {X : Type 0} (f : ℕ) where
       fills-contents (i + 1) xs s.0 w s.2 ∙ ap (written (i + 1) xs) here
 
   -- the frame has a page's words from the first store on
-  fills-size : (xs : List ℕ) (v w : View X) → 0 < length xs → Stores f 0 xs v w → length (contents_at v f) ≡ v.start.size
+  fills-size : (xs : List ℕ) (v w : View X) → 0 < length xs → Stores f 0 xs v w
+      → length (contents_at v f) ≡ v.start.size
   fills-size [] v w some s = absurd (omega (arith, some))
   fills-size (x ∷ xs) v w some s = let t : FillTold f 0 x v s.0 = s.1 in t.size
 
-  pub filled : (xs : List ℕ) (v w : View X) → length xs ≡ v.start.size → 0 < length xs → Stores f 0 xs v w → contents_at w f ≡ xs
+  pub filled : (xs : List ℕ) (v w : View X) → length xs ≡ v.start.size → 0 < length xs → Stores f 0 xs v w
+      → contents_at w f ≡ xs
   filled xs v w long some s =
       fills-contents 0 xs v w s ∙ (written-over 0 xs [] (contents_at v f) refl (fills-size xs v w some s ∙ sym long))
 
 -- each word was stored
-stored-at : (f i : ℕ) (xs : List ℕ) (k : ℕ) → k < length xs → HasWritten (stores-did f i xs) (places.Content f (i + k)) (slice_index xs k)
+stored-at : (f i : ℕ) (xs : List ℕ) (k : ℕ) → k < length xs
+    → HasWritten (stores-did f i xs) (places.Content f (i + k)) (slice_index xs k)
 stored-at f i [] k l = absurd (omega (arith, l))
 stored-at f i (x ∷ xs) zero l =
     let here : i ≡ i + 0 = omega arith in
@@ -115,10 +119,12 @@ stored-at f i (x ∷ xs) (suc k) l =
     (written-behind (did_store (places.Content f i) x ∷ []) (stores-did f (i + 1) xs) (places.Content f (i + 1 + k))
     (slice_index xs k) (stored-at f (i + 1) xs k (omega (arith, l))))
 
-pub all-stored : (f : ℕ) (xs : List ℕ) (k : ℕ) → k < length xs → HasWritten (stores-did f 0 xs) (places.Content f k) (slice_index xs k)
+pub all-stored : (f : ℕ) (xs : List ℕ) (k : ℕ) → k < length xs
+    → HasWritten (stores-did f 0 xs) (places.Content f k) (slice_index xs k)
 all-stored f xs k l =
     subst (λ (n : ℕ). HasWritten (stores-did f 0 xs) (places.Content f n) (slice_index xs k)) (omega arith) (stored-at f 0 xs k l)
 
 -- past the last word all of them were stored
-pub stored-whole : {X : Type 0} (f n : ℕ) (xs : List ℕ) (v w : View X) → length xs ≤ n → Stores f 0 (take n xs) v w → Stores f 0 xs v w
+pub stored-whole : {X : Type 0} (f n : ℕ) (xs : List ℕ) (v w : View X) → length xs ≤ n → Stores f 0 (take n xs) v w
+    → Stores f 0 xs v w
 stored-whole f n xs v w below s = subst (λ (l : List ℕ). Stores f 0 l v w) (take_all n xs below) s

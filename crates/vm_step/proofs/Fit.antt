@@ -18,6 +18,7 @@ module _ {X : Type 0} where
   either-lives b x y l m = grind arith
 
   -- and that has a part
-  pub either-has : (b : Bool) (x y : View X) → 0 < length x.used → 0 < length y.used → 0 < length (if b then x else y).used
+  pub either-has : (b : Bool) (x y : View X) → 0 < length x.used → 0 < length y.used
+      → 0 < length (if b then x else y).used
   either-has true x y l m = l
   either-has false x y l m = m

@@ -34,7 +34,8 @@ chosen-same (suc n) f g e = rw (chosen-same n f g (λ q l. e q (omega arith)), e
 
 -- ---- a list without some of its numbers
 
-pub has-without_all : (qs owed : List ℕ) (q : ℕ) → has q (without_all qs owed) ≡ true → (has q owed ≡ true) × (has q qs ≡ false)
+pub has-without_all : (qs owed : List ℕ) (q : ℕ) → has q (without_all qs owed) ≡ true
+    → (has q owed ≡ true) × (has q qs ≡ false)
 has-without_all qs owed q some = let is = without_all-has q qs owed in grind (arith, is)
 
 pub has-without_all_other : (qs owed : List ℕ) (q : ℕ) → has q qs ≡ false → has q (without_all qs owed) ≡ has q owed
@@ -46,7 +47,8 @@ has-without_all_same qs owed q some = without_all-has q qs owed ∙ rw some refl
 -- ---- the pages after a group's changes
 
 -- the changes have the words of the pages before
-pub listed-agrees : (n : ℕ) (f : ℕ → List ℕ) (cs : List Change) → Each (λ c. (c.page < n) × (f c.page ≡ c.old)) cs → Agrees (listed n f) cs
+pub listed-agrees : (n : ℕ) (f : ℕ → List ℕ) (cs : List Change) → Each (λ c. (c.page < n) × (f c.page ≡ c.old)) cs
+    → Agrees (listed n f) cs
 listed-agrees n f [] e = tt
 listed-agrees n f (c ∷ cs) e = (rw (length-listed n f) e.0.0, page-listed n f c.page e.0.0 ∙ e.0.1, listed-agrees n f cs e.1)
 

@@ -2,7 +2,8 @@
 use Rattle.vm_step.proofs.Prelude.{AreHeld, Each, has, List, subst, sym, true, View, ℕ, ◌<◌, ◌≡◌}
 
 module _ {X : Type 0} where
-  pub held-on : (frames : List ℕ) (v w : View X) → AreHeld frames v → w.start ≡ v.start → w.frames ≡ v.frames → AreHeld frames w
+  pub held-on : (frames : List ℕ) (v w : View X) → AreHeld frames v → w.start ≡ v.start → w.frames ≡ v.frames
+      → AreHeld frames w
   held-on frames v w h start same = record {
     apart = h.apart;
     inside = subst (λ origin. Each (λ f. f < origin.frames) frames) (sym start) h.inside;

@@ -17,7 +17,8 @@ state-each : (x : WordPlace) (P Q : ℕ → Type 0) → ((q : ℕ) → P q → Q
 state-each (places.State p) P Q f h = f p h
 state-each _ P Q f h = tt
 
-was-since : (y : Page) (found : ℕ) (o : Option ℕ) → y.state ≡ state_of found → y.version ≡ version_of found → WasWord y o → IsSince found o
+was-since : (y : Page) (found : ℕ) (o : Option ℕ) → y.state ≡ state_of found → y.version ≡ version_of found
+    → WasWord y o → IsSince found o
 was-since y found o s v h = grind arith
 
 older-of : (found : ℕ) (o : Option Open) → ((x : Open) → o ≡ Some x → x.version ≤ version_of found)
@@ -60,7 +61,8 @@ module _ {X B : Type 0} (stored : B → Stored) (keeps : Start → Kept X → Ty
     last-told p = ap (λ (o : Origin). last_in o (r.releases ++ []) p) (r.heard id v there live).same_start
         ∙ ap (λ l. last_in start l p) (append-none r.releases) ∙ last-is start r.releases r.drafts p
 
-    pub version-told : (p : ℕ) → p < start.pages → (last_in v.start (r.releases ++ []) p).version ≡ version_of (slice_index s.words p)
+    pub version-told : (p : ℕ) → p < start.pages
+        → (last_in v.start (r.releases ++ []) p).version ≡ version_of (slice_index s.words p)
     version-told p l = ap (λ (x : Version). x.version) (last-told p) ∙ (r.inv.pages p).stands.last ∙ version-here stored start s p l
 
     pub size-told : (p : ℕ) → length (last_in v.start (r.releases ++ []) p).words ≡ v.start.size

@@ -12,7 +12,8 @@ use Rattle.vm_step.proofs.Prelude.{View, World, world_of, ℕ, ◌<◌, ◌∙�
 pub shared-free : {X B : Type 0} (stored : B → Stored) (keeps : Start → Kept X → Type 0)
     (tied : Start → ℕ → List ℕ → ℕ → List ℕ → Type 0) (start : Origin) (tells : Bool) (t : Table (Option B) (View X))
     (r : Ruled stored keeps tied start tells t) (id : ℕ) (w : View X)
-    → get_elem? t.views id ≡ some w → (q : ℕ) → q < start.pages → 1 ≤ (seat_of w q).shares → is_pending t.views q ≡ false
+    → get_elem? t.views id ≡ some w → (q : ℕ) → q < start.pages → 1 ≤ (seat_of w q).shares
+    → is_pending t.views q ≡ false
 shared-free stored keeps tied start tells t r id w there q l some' =
     let below = (shared-here stored start t id q w (r.inv.pages q).locks l there some').1 in
     not-pending stored keeps tied start tells t r q l (λ e. omega (arith, below, e))
@@ -27,7 +28,8 @@ module _ {X B : Type 0} (stored : B → Stored) (keeps : Start → Kept X → Ty
   kept_shown = kept_of shown w.seen t.views
 
   -- of a page that is no member still to be released they are its last words
-  shown-last : (q : ℕ) → q < start.pages → w.start ≡ start → is_pending t.views q ≡ false → page_at kept_shown.pages q ≡ (last_of w q).words
+  shown-last : (q : ℕ) → q < start.pages → w.start ≡ start → is_pending t.views q ≡ false
+      → page_at kept_shown.pages q ≡ (last_of w q).words
   shown-last q l same free =
       page-listed start.pages _ q l
       ∙ logical-last shown.histories (is_pending t.views) q free

@@ -8,7 +8,8 @@ use Rattle.vm_step.proofs.Prelude.{seat_of, StartsWith, StaysAlone, Stored, subs
 use Rattle.vm_step.proofs.Prelude.{◌++◌, ◌∙◌, ◌∷◌, ◌≡◌, ◌≢◌}
 
 module _ {X : Type 0} (p : ℕ) where
-  pub leaves-then : (a b : List Did) (u v w : View X) → LeavesRest p a u v → LeavesRest p b v w → LeavesRest p (a ++ b) u w
+  pub leaves-then : (a b : List Did) (u v w : View X) → LeavesRest p a u v → LeavesRest p b v w
+      → LeavesRest p (a ++ b) u w
   leaves-then a b u v w f g =
       let log : w.log ≡ u.log ++ (a ++ b) = g.log ∙ ap (λ (t : List Did). t ++ b) f.log ∙ append_assoc u.log a b in
       let ties : (more : List Tie) × (w.ties ≡ more ++ u.ties) = (
@@ -71,7 +72,8 @@ module _ {X : Type 0} (p : ℕ) where
   pub works-none : (v : View X) → Works p [] v v
   works-none v = search (rules, append-none, runs-self v)
 
-  -- one step, which changes what is known of page p, the pass's frames and their words, the block that is out, or the notes
+  -- one step, which changes what is known of page p, the pass's frames and their words, the block that is out, or the
+  -- notes
   pub works-one : (did : Did) (block : Option (ℕ × Stored)) (v : View X) (held : List (Put Held)) (frames : List ℕ)
       (contents : List (Put (List ℕ))) (out : Option Out) (notes : List Note) (w : View X)
       → ((q : ℕ) → q ≢ p → put_at no_held held q ≡ held_at v q)

@@ -10,11 +10,13 @@ unfolding at
 page-listed n f k l = at-listed [] n f k l
 
 -- the logical words of a page, as a member still to be released or not
-pub logical-draft : (h : ℕ → History) (members : ℕ → Bool) (q : ℕ) → members q ≡ true → logical h members q ≡ (h q).draft
+pub logical-draft : (h : ℕ → History) (members : ℕ → Bool) (q : ℕ) → members q ≡ true
+    → logical h members q ≡ (h q).draft
 unfolding logical
 logical-draft h members q e = rw e refl
 
-pub logical-last : (h : ℕ → History) (members : ℕ → Bool) (q : ℕ) → members q ≡ false → logical h members q ≡ (h q).last.words
+pub logical-last : (h : ℕ → History) (members : ℕ → Bool) (q : ℕ) → members q ≡ false
+    → logical h members q ≡ (h q).last.words
 unfolding logical
 logical-last h members q e = rw e refl
 
@@ -31,7 +33,8 @@ module _ {X B : Type 0} (stored : B → Stored) (keeps : Start → Kept X → Ty
     (tied : Start → ℕ → List ℕ → ℕ → List ℕ → Type 0) (start : Origin) (tells : Bool) (s : Table (Option B) (View X))
     (r : Ruled stored keeps tied start tells s) where
   -- a page that is not locked is no member still to be released
-  pub not-pending : (p : ℕ) → p < start.pages → ((core_shown stored start s).pages p).state ≢ LOCKED → is_pending s.views p ≡ false
+  pub not-pending : (p : ℕ) → p < start.pages → ((core_shown stored start s).pages p).state ≢ LOCKED
+      → is_pending s.views p ≡ false
   not-pending p l free =
       false_from_ne_true (is_pending s.views p) (λ t. let k = pending-held stored start keeps tied tells s r p t in
       free (locked-here stored start s k.0 p k.1 (r.inv.pages p).locks l k.2 k.3))

@@ -1,4 +1,5 @@
--- The frames, or pages, whose bits are set in a mask over a word of the table: as many as bits are set there, by rising number.
+-- The frames, or pages, whose bits are set in a mask over a word of the table: as many as bits are set there, by
+-- rising number.
 use Rattle.std.specs.Int.{bit_at}
 use Rattle.std.proofs.Common.{[], ⊎_elim, ◌*◌, ◌++◌, ◌+◌, ◌<◌, ◌||◌, ◌∙◌, ◌∷◌, ◌≡◌, ◌≢◌, ap, arith, Bool, eqb, false}
 use Rattle.std.proofs.Common.{if◌then◌else◌, length, List, refl, suc, sym, true, zero, ℕ}
@@ -16,7 +17,8 @@ below-next : (i g mask : ℕ) → frames_below (i + 1) g mask ≡ frames_below i
 below-next i g mask = let e : i + 1 ≡ suc i = omega arith in ap (λ n. frames_below n g mask) e
 
 -- one more of the first bits is set
-pub below-set : (i g mask : ℕ) → bit_at mask i ≡ 1 → frames_below (i + 1) g mask ≡ frames_below i g mask ++ (64 * g + i) ∷ []
+pub below-set : (i g mask : ℕ) → bit_at mask i ≡ 1
+    → frames_below (i + 1) g mask ≡ frames_below i g mask ++ (64 * g + i) ∷ []
 below-set i g mask e = below-next i g mask ∙ ap (λ b. frames_below i g mask ++ (if b then (64 * g + i) ∷ [] else []))
     (eq-eqb (bit_at mask i) 1 e)
 

@@ -13,7 +13,8 @@ module _ {X : Type 0} where
       sym (ap (λ (u : View X). u.releases) b.view ∙ append-none (v.releases ++ b.between)) in
       (subst (λ l. StartsWith l n.releases) releases b.told.0, subst (λ l. StartsWith l n.seen) seen (b.told.1.0, b.told.1.1))
 
-  -- they know one and the same of both lists then, which goes on from what each had seen, with no further entry of either
+  -- they know one and the same of both lists then, which goes on from what each had seen, with no further entry of
+  -- either
   pub met-known : (v w x y : View X) → Meets v w x y → (y.seen ≡ x.seen) × (y.releases ≡ x.releases)
       × Hears x.seen v.used v.seen × Hears x.seen w.used w.seen × StartsWith x.releases v.releases
       × StartsWith x.releases w.releases

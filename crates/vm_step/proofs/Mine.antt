@@ -25,7 +25,8 @@ module _ {X B : Type 0} (stored : B → Stored) (keeps : Start → Kept X → Ty
       (λ le. absurd (false≢true (ap (λ (y : Page). stands_in y.trans f) (sym (outside p le)) ∙ e)))
       (cases_lt p start.pages)
 
-  -- a page whose device the pass may call, and that it knows to stand in a frame, is one of the table's, and stands there
+  -- a page whose device the pass may call, and that it knows to stand in a frame, is one of the table's, and stands
+  -- there
   pub stands-called : (p : ℕ) (m : Mapping) → may_call (seat_of v p) ≡ true → (put_at no_held v.held p).mapping ≡ Some
       m → (p < start.pages) × (((core_shown stored start s).pages p).trans ≡ Some m)
   stands-called p m calls at =
@@ -38,7 +39,8 @@ module _ {X B : Type 0} (stored : B → Stored) (keeps : Start → Kept X → Ty
   stands-known p m owns at = stands-called p m (rw owns refl) at
 
   -- the owner word of the frame that such a page stands in is the one that the pass knows
-  pub owner-known : (p word : ℕ) → may_call (seat_of v p) ≡ true → (held_at v p).owner ≡ word → IsOwned (core_shown stored start s) p word
+  pub owner-known : (p word : ℕ) → may_call (seat_of v p) ≡ true → (held_at v p).owner ≡ word
+      → IsOwned (core_shown stored start s) p word
   owner-known p word calls is m at = let k = r.known id v there live in sym (k.owners p m calls (((k.knows p).calls calls).0 ∙ at)) ∙ is
 
   -- an owner word names a page of the table, or none
@@ -51,7 +53,8 @@ module _ {X B : Type 0} (stored : B → Stored) (keeps : Start → Kept X → Ty
 
   -- where a view says so only of a page that it holds exclusively, and some view says it of this page after a step of
   -- the pass, its own does
-  pub holder-said : (f : View X → Bool) (p : ℕ) (w : View X) → p < start.pages → (seat_of v p).exclusive ≡ true → f spent ≡ false
+  pub holder-said : (f : View X → Bool) (p : ℕ) (w : View X) → p < start.pages → (seat_of v p).exclusive ≡ true
+      → f spent ≡ false
       → ((j : ℕ) (u : View X) → get_elem? s.views j ≡ some u → u.live ≡ true → f u ≡ true
       → (seat_of u p).exclusive ≡ true) → any f (slice_set s.views id w) ≡ true → f w ≡ true
   holder-said f p w l owns none holds e =
@@ -73,11 +76,13 @@ module _ {X B : Type 0} (stored : B → Stored) (keeps : Start → Kept X → Ty
   holder-says f p l owns none holds e = holder-said f p v l owns none holds (any-same f s.views id v v there refl ∙ e)
 
   -- a page that the pass holds is a member still to be released, or is owed, only if its own view says so
-  pub member-mine : (p : ℕ) → p < start.pages → (seat_of v p).exclusive ≡ true → is_pending s.views p ≡ true → has p v.pending ≡ true
+  pub member-mine : (p : ℕ) → p < start.pages → (seat_of v p).exclusive ≡ true → is_pending s.views p ≡ true
+      → has p v.pending ≡ true
   member-mine p l owns e = holder-says (λ u. has p u.pending) p l owns refl (λ j u at on x. ((r.known j u at on).pending p x).0) e
 
   -- a page that the pass has locked or shared is none of another pass
-  pub no-member : (p : ℕ) → p < start.pages → IsLocking (seat_of v p) → has p v.pending ≡ false → is_pending s.views p ≡ false
+  pub no-member : (p : ℕ) → p < start.pages → IsLocking (seat_of v p) → has p v.pending ≡ false
+      → is_pending s.views p ≡ false
   no-member p l locks none =
       ⊎_elim
       (λ owns. false_from_ne_true (is_pending s.views p) (λ t. true≢false (sym (member-mine p l owns t) ∙ none)))
@@ -85,7 +90,8 @@ module _ {X B : Type 0} (stored : B → Stored) (keeps : Start → Kept X → Ty
       not-pending stored keeps tied start tells s r p l (λ e. absurd (omega (arith, free, e))))
       locks
 
-  pub owed-mine : (p : ℕ) → p < start.pages → (seat_of v p).exclusive ≡ true → is_owed s.views p ≡ true → has p v.owed ≡ true
+  pub owed-mine : (p : ℕ) → p < start.pages → (seat_of v p).exclusive ≡ true → is_owed s.views p ≡ true
+      → has p v.owed ≡ true
   owed-mine p l owns e = holder-says (λ u. has p u.owed) p l owns refl (λ j u at on x. ((r.known j u at on).owed p x).0) e
 
   -- after a step of the pass, it is so where its view then does not say so

@@ -1,5 +1,5 @@
--- A step on the state word of a group keeps the rule, where the same step keeps it at each page of the group: it is the steps of the pages, one
--- behind another, on the table as its pages read it.
+-- A step on the state word of a group keeps the rule, where the same step keeps it at each page of the group: it is
+-- the steps of the pages, one behind another, on the table as its pages read it.
 use mathlib.Core.Option as maybe
 use Rattle.atomic_table.specs.Table.{keeps as nothing}
 use Rattle.std.proofs.Common.{eq-eqb}
@@ -14,9 +14,12 @@ use Rattle.vm_rule.specs.Prelude.{spread}
 use Rattle.vm_rule.specs.Spread.{all_set, group_of}
 use Rattle.vm_step.specs.Over.{InTurn}
 use Rattle.vm_step.proofs.{Here.is-of, Standing.born}
-use Rattle.vm_step.proofs.Prelude.{[], AllowsStep, ap, arith, became, Bool, get_elem?, has, HasShape, inl, IsFit, Kept, length, List}
-use Rattle.vm_step.proofs.Prelude.{Option, Origin, refl, Ruled, slice_index, slice_set, some, some-injective, Stands, Start, Stored}
-use Rattle.vm_step.proofs.Prelude.{subst, suc, sym, Table, TableShape, told_of, true, View, width, zero, ℕ, ⊎_elim, ◌<◌, ◌∙◌, ◌∷◌, ◌≡◌, ◌≢◌}
+use Rattle.vm_step.proofs.Prelude.{[], AllowsStep, ap, arith, became, Bool, get_elem?}
+use Rattle.vm_step.proofs.Prelude.{has, HasShape, inl, IsFit, Kept, length, List}
+use Rattle.vm_step.proofs.Prelude.{Option, Origin, refl, Ruled, slice_index, slice_set}
+use Rattle.vm_step.proofs.Prelude.{some, some-injective, Stands, Start, Stored}
+use Rattle.vm_step.proofs.Prelude.{subst, suc, sym, Table, TableShape, told_of, true, View, width}
+use Rattle.vm_step.proofs.Prelude.{zero, ℕ, ⊎_elim, ◌<◌, ◌∙◌, ◌∷◌, ◌≡◌, ◌≢◌}
 use Rattle.vm_step.proofs.Prelude.{BringsWith, Did, Entry, false, if◌then◌else◌, Release, seat_of, ◌||◌}
 
 -- ---- lists of views
@@ -31,7 +34,8 @@ set-twice [] i v w = refl
 set-twice (x ∷ xs) zero v w = refl
 set-twice (x ∷ xs) (suc i) v w = ap (λ ys. x ∷ ys) (set-twice xs i v w)
 
-set-found : {V : Type 0} (l : List V) (i : ℕ) (v w : V) → get_elem? l i ≡ some v → get_elem? (slice_set l i w) i ≡ some w
+set-found : {V : Type 0} (l : List V) (i : ℕ) (v w : V) → get_elem? l i ≡ some v
+    → get_elem? (slice_set l i w) i ≡ some w
 set-found [] i v w e = absurd (maybe.some-ne-none v (sym e))
 set-found (x ∷ xs) zero v w e = refl
 set-found (x ∷ xs) (suc i) v w e = set-found xs i v w e
@@ -49,7 +53,8 @@ has-tail q qs p is = ⊎_elim (λ e. ap (λ b. b || has p qs) (eq-eqb p q e)) (�
 module _ {X B : Type 0} (stored : B → Stored) (keeps : Start → Kept X → Type 0)
     (tied : Start → ℕ → List ℕ → ℕ → List ℕ → Type 0) (start : Origin) (tells : Bool) (id : ℕ) (g : ℕ → ℕ)
     (Told : ℕ → ℕ → View X → View X → Type 0) (Ready : List ℕ → View X → Type 0) where
-  -- the step at one page, before those at others, of which it is none; the word is one of 64 bits, and theirs is the same
+  -- the step at one page, before those at others, of which it is none; the word is one of 64 bits, and theirs is the
+  -- same
   abbrev pub StepsAt : ℕ → List ℕ → Type 0
   StepsAt q qs = (s : Table (Option B) (View X)) (u : View X) → Ruled stored keeps tied start tells s → get_elem? s.views id ≡ some u
       → has q qs ≡ false → slice_index s.words q < 18446744073709551616
@@ -59,7 +64,8 @@ module _ {X B : Type 0} (stored : B → Stored) (keeps : Start → Kept X → Ty
       × Told q (slice_index s.words q) u w × Ready qs w
 
   pub in-turn : (qs : List ℕ) → AreApart qs → ((q : ℕ) (rest : List ℕ) → has q qs ≡ true → StepsAt q rest)
-      → (s : Table (Option B) (View X)) (u : View X) → Ruled stored keeps tied start tells s → get_elem? s.views id ≡ some u
+      → (s : Table (Option B) (View X)) (u : View X) → Ruled stored keeps tied start tells s
+      → get_elem? s.views id ≡ some u
       → Ready qs u → (n : ℕ) → n < 18446744073709551616 → ((q : ℕ) → has q qs ≡ true → slice_index s.words q ≡ n)
       → (w : View X) × Ruled stored keeps tied start tells (became stored keeps tied start tells s (all_set qs (g n) s.words) id w)
       × InTurn Told qs n u w × Ready [] w
@@ -96,7 +102,8 @@ module _ {X B : Type 0} (stored : B → Stored) (keeps : Start → Kept X → Ty
   abbrev groups : List (ℕ × ℕ)
   groups = shape.began.origin.groups
 
-  -- the step on the word of a group's first page; a pass that is ready may say so knowing that the table's groups fit it
+  -- the step on the word of a group's first page; a pass that is ready may say so knowing that the table's groups fit
+  -- it
   pub over-allows : (slots id : ℕ) (v : View X) (h : ℕ) (f : ℕ → ℕ) (Told : ℕ → ℕ → View X → View X → Type 0)
       (Ready : List ℕ → View X → Type 0) → v.live ≡ true → h < shape.pages → head_in groups h ≡ h
       → (GroupsFit shape.pages groups → Ready (group_of groups h) v)
@@ -167,15 +174,16 @@ module _ {X B : Type 0} (stored : B → Stored) (keeps : Start → Kept X → Ty
     ends : qs ≡ [] → IsFit u
     may : (q : ℕ) → has q qs ≡ true → May q u
 
-  -- the same of a step that asks something of each page on its own, and leaves what it asks of the others. The pass need not be fit before,
-  -- so it may have something to learn from a join.
+  -- the same of a step that asks something of each page on its own, and leaves what it asks of the others. The pass
+  -- need not be fit before, so it may have something to learn from a join.
   pub over-each : (slots id : ℕ) (v : View X) (h : ℕ) (f : ℕ → ℕ) (Told : ℕ → ℕ → View X → View X → Type 0)
       (May : ℕ → View X → Type 0) → v.live ≡ true → 0 < length v.used → h < shape.pages → head_in groups h ≡ h
       → ((q : ℕ) → has q (group_of groups h) ≡ true → May q v)
       → ((q n : ℕ) (u w : View X) → u.live ≡ true → 0 < length u.used → Told q n u w → IsFit w)
       → ((q n p : ℕ) (u w : View X) → Told q n u w → p ≢ q → May p u → May p w)
       → ((start : Origin) → HasShape shape start → (q : ℕ) → q < start.pages → (s : Table (Option B) (View X)) (u : View X)
-      → Ruled stored keeps tied start tells s → get_elem? s.views id ≡ some u → u.live ≡ true → 0 < length u.used → May q u
+      → Ruled stored keeps tied start tells s → get_elem? s.views id ≡ some u → u.live ≡ true → 0 < length u.used
+      → May q u
       → slice_index s.words q < 18446744073709551616
       → (w : View X) × Ruled stored keeps tied start tells
       (became stored keeps tied start tells s (slice_set s.words q (f (slice_index s.words q))) id w)
@@ -207,7 +215,8 @@ module _ {X B : Type 0} (stored : B → Stored) (keeps : Start → Kept X → Ty
 
 -- ---- a store, which finds no word
 
-in-any : {X : Type 0} (T : ℕ → View X → View X → Type 0) (qs : List ℕ) (n m : ℕ) (v w : View X) → InTurn (λ q _. T q) qs n v w
+in-any : {X : Type 0} (T : ℕ → View X → View X → Type 0) (qs : List ℕ) (n m : ℕ) (v w : View X)
+    → InTurn (λ q _. T q) qs n v w
     → InTurn (λ q _. T q) qs m v w
 in-any T [] n m v w told = told
 in-any T (q ∷ qs) n m v w told = (told.0, told.1, in-any T qs n m told.0 w told.2)

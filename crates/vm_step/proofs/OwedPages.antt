@@ -28,7 +28,8 @@ chosen-more (suc n) f g k l low here none after =
     grind (arith, append-none)
 
 module _ {S : Type 0} where
-  -- the numbers for which f says so are owed, all below the next one; then those for which g does, which are the next n more
+  -- the numbers for which f says so are owed, all below the next one; then those for which g does, which are the next
+  -- n more
   pub claimed-chosen : (n m : ℕ) (kept : Kept S) (f g : ℕ → Bool) → kept.owed ≡ chosen m f → kept.next + n ≤ m
       → ((q : ℕ) → q < kept.next → g q ≡ f q)
       → ((q : ℕ) → kept.next ≤ q → q < m → f q ≡ false) → ((q : ℕ) → kept.next ≤ q → q < kept.next + n → g q ≡ true)

@@ -38,7 +38,8 @@ pub use Rattle.vm_event.proofs.{Locks.sum_below-at, PageFacts.block-is_last, Pag
 pub use Rattle.vm_event.proofs.{Upd.each-upd, Upd.each-upd2, Upd.upd-keeps, Upd.upd-other, Upd.upd-same, Upd.upd-self}
 pub use Rattle.vm_rule.proofs.from_vm_laws_others.Laws.{leave_others}
 pub use Rattle.vm_owner.specs.Kept.{after_release, Agrees, AreSized, AreZero, changed, Fits, IsTurn, owed_after, told}
-pub use Rattle.vm_owner.proofs.NumberLemmas.{has-without, has-without_other, has-without_same, without-both, without-none}
+pub use Rattle.vm_owner.proofs.NumberLemmas.{has-without, has-without_other, has-without_same}
+pub use Rattle.vm_owner.proofs.NumberLemmas.{without-both, without-none}
 pub use Rattle.vm_owner.proofs.Unchanged.{released_same}
 pub use Rattle.vm_rule.specs.{Bundles.given_view, Bundles.taken_view, declared.view.Held.Held}
 pub use Rattle.vm_rule.specs.{declared.view.WordPlace.WordPlace, Faults.raised_view, Hearing.follower}
@@ -121,7 +122,8 @@ pub use Rattle.vm_step.specs.{steps.Translate.TloadIsItsEvent, steps.WriteBack.L
 pub use Rattle.vm_step.specs.{steps.WriteBack.UpgradeIsItsEvent, Together.all_freed, Together.all_notes}
 pub use Rattle.vm_step.specs.{Together.all_numbers, Together.all_used, Together.HasPiece}
 pub use Rattle.vm_step.specs.BlockMoves.{brought_to, IsCall, IsHome, ShowsBut, ShowsSame, taken_from, with_block}
-pub use Rattle.vm_step.specs.NoEvents.{HasNone, IsSplitOff, IsTakenIn, table_heard, table_joined, table_split, taken_in, with_actor}
+pub use Rattle.vm_step.specs.NoEvents.{HasNone, IsSplitOff, IsTakenIn, table_heard}
+pub use Rattle.vm_step.specs.NoEvents.{table_joined, table_split, taken_in, with_actor}
 pub use Rattle.vm_step.specs.Prelude.{AllowsStep, AreHeld, CatchTold, Did, exchange_sees, exchanged, first_or}
 pub use Rattle.vm_step.specs.Prelude.{Follows, GoesOnce, HasGiven, HasJoined, HasStill, HasWritten, HoldsPage}
 pub use Rattle.vm_step.specs.Prelude.{IsAlone, IsAside, KeepsNumbers, IsAsideOf, IsCalledOnce, IsClaimed, IsEvent}

@@ -262,7 +262,8 @@ module _ {X B : Type 0} (stored : B → Stored) (keeps : Start → Kept X → Ty
     pub spares : (world_after before e).core.spares ≡ before.core.spares
     pub knows : (q : ℕ) → KnowsPage (seat_of inner q) (put_at no_held inner.held q) ((world_after before e).core.pages q)
     pub owners : KnowsOwners (world_after before e).core.owners (seat_of inner) (put_at no_held inner.held)
-    pub contents : (f : ℕ) → has f inner.frames ≡ true → put_at [] inner.contents f ≡ (world_after before e).core.words f
+    pub contents : (f : ℕ) → has f inner.frames ≡ true
+        → put_at [] inner.contents f ≡ (world_after before e).core.words f
     pub drafted : (q : ℕ) → (seat_of inner q).exclusive ≡ true → draft_of inner q ≡ drafts q
     pub loaded : (l : List Translation) × (inner.translations ≡ l ++ v.translations)
         × Each (TranslationHolds (world_after before e).core.pages) l

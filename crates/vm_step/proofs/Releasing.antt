@@ -63,7 +63,8 @@ pub next-kept : (p : ℕ) (o : Option ℕ) (x : ℕ) → next_after p o ≡ Some
 next-kept p o x e = grind (arith, nat_tests)
 
 module _ {X : Type 0} where
-  pub entries-one : (v : View X) (said : Option X) → (entries_of v said ≡ []) ⊎ ((x : X) × (entries_of v said ≡ entry_of v x ∷ []))
+  pub entries-one : (v : View X) (said : Option X)
+      → (entries_of v said ≡ []) ⊎ ((x : X) × (entries_of v said ≡ entry_of v x ∷ []))
   entries-one v None = inl refl
   entries-one v (Some x) = inr (x, refl)
 
@@ -195,7 +196,8 @@ either-same : {A : Type 0} (b : Bool) (x y : A) → y ≡ x → (if b then x els
 either-same true x y e = refl
 either-same false x y e = e
 
--- with the words that it had, of a page whose number is held only where they are all 0, the numbers held stay; and no page is freed
+-- with the words that it had, of a page whose number is held only where they are all 0, the numbers held stay; and no
+-- page is freed
 pub numbers-kept : {X : Type 0} (p : ℕ) (v : View X) → v.start.tells ≡ true → draft_of v p ≡ (last_of v p).words
     → (has p v.numbers ≡ true → all_zero (last_of v p).words ≡ true) → numbers_left p v ≡ v.numbers
 numbers-kept p v tells same zero =
@@ -507,7 +509,8 @@ module _ {X B : Type 0} {stored : B → Stored} {keeps : Start → Kept X → Ty
   member-page q m = let l = m.page in let same =
       ap (λ (o : Origin). o.pages) (rel.r.heard rel.id rel.v rel.there rel.live).same_start in omega (arith, l, same)
 
-  pub claimed : (q : ℕ) → IsMember rel.v q → start.tells ≡ true → old.core.next ≤ q → draft_of rel.v q ≡ (old.histories q).last.words
+  pub claimed : (q : ℕ) → IsMember rel.v q → start.tells ≡ true → old.core.next ≤ q
+      → draft_of rel.v q ≡ (old.histories q).last.words
   claimed q m t le = unclaimed q (member-page q m) m.owns
       (m.claimed (ap (λ (o : Origin). o.tells) (rel.r.heard rel.id rel.v rel.there rel.live).same_start ∙ t)) t le
 
@@ -520,7 +523,8 @@ module _ {X B : Type 0} {stored : B → Stored} {keeps : Start → Kept X → Ty
       rel.group
 
 -- its view after the second is that after the first, where the page is no member of a group and not owed
-pub evicted-is : {X : Type 0} (v : View X) (p version : ℕ) → MayEvict v p version → left_view Evicts p [] None v ≡ evicted_view p v
+pub evicted-is : {X : Type 0} (v : View X) (p version : ℕ) → MayEvict v p version
+    → left_view Evicts p [] None v ≡ evicted_view p v
 evicted-is v p version g = rw (g.free, without-none p v.owed g.paid, append-none v.mine) refl
 
 -- and so after a release to a share

@@ -2,7 +2,8 @@
 use Rattle.vm_rule.specs.declared.view.WordPlace.TheVariants as places
 use Rattle.vm_step.specs.Evidence.{read}
 use Rattle.vm_step.specs.declared.saw.At.TheVariants as ats
-use Rattle.vm_step.proofs.Prelude.{[], ap, cond-false, did_exchange, did_load, eqb, expected, HasGiven, inr, IsSaw, ne_eqb, none-some, refl}
+use Rattle.vm_step.proofs.Prelude.{[], ap, cond-false, did_exchange, did_load, eqb, expected}
+use Rattle.vm_step.proofs.Prelude.{HasGiven, inr, IsSaw, ne_eqb, none-some, refl}
 use Rattle.vm_step.proofs.Prelude.{Some, ℕ, ⊎_elim, ◌∷◌, ◌≡◌, ◌≢◌, ◌⊎◌}
 
 -- the one step gave the word

@@ -7,7 +7,8 @@ module _ {X : Type 0} where
 
   pub seat-allows : {S : Type 0} (holds : Table S (View X) → Type 0) (slots id seat at : ℕ) (v : View X)
       (m : Me S (View X)) (f : ℕ → ℕ) (told : ℕ → View X → View X → Type 0)
-      → seat ≡ id → v ≡ m.0 → m.1 ≡ [] → AllowsStep holds slots id v at f told → Allows holds slots seat m at f (play told m)
+      → seat ≡ id → v ≡ m.0 → m.1 ≡ [] → AllowsStep holds slots id v at f told
+      → Allows holds slots seat m at f (play told m)
   seat-allows holds slots id seat at v m f told same is none a =
       subst (λ k. Allows holds slots k m at f (play told m)) (sym same)
       (subst (λ u. Allows holds slots id (u, m.1) at f (play told (u, m.1))) is

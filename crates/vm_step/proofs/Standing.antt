@@ -12,7 +12,8 @@ use Rattle.vm_step.proofs.Prelude.{Stored, subst, suc, sym, Table, told_of, true
 use Rattle.vm_step.proofs.Prelude.{⊎_elim, ◌<◌, ◌∙◌, ◌∷◌, ◌≡◌}
 
 -- the one view of a table before its first step is not live
-pub born : {X : Type 0} (shape : TableShape) (id : ℕ) (v : View X) → get_elem? (unborn shape ∷ []) id ≡ some v → v.live ≡ true → ⊥
+pub born : {X : Type 0} (shape : TableShape) (id : ℕ) (v : View X) → get_elem? (unborn shape ∷ []) id ≡ some v
+    → v.live ≡ true → ⊥
 born shape zero v e live = true≢false (sym live ∙ ap (λ (y : View _). y.live) (sym (some-injective (unborn shape) v e)))
 born shape (suc id) v e live = maybe.some-ne-none v (sym e)
 

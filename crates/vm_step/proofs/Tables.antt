@@ -1,4 +1,5 @@
--- The words of the table over the steps of a pass that is alone: a place is told by its index, and the words where no step wrote stay.
+-- The words of the table over the steps of a pass that is alone: a place is told by its index, and the words where no
+-- step wrote stay.
 use Rattle.std.proofs.lemmas.List.{length-set}
 use Rattle.vm_rule_laws.proofs.Places.{places-apart}
 use Rattle.vm_step.proofs.Alone.{set-else}
@@ -11,7 +12,8 @@ use Rattle.vm_step.proofs.Prelude.{◌∷◌, ◌≡◌, ◌≢◌, ◌⊎◌}
 -- ---- a place and its index
 
 -- two places of the table with one index are one
-pub index-same : (start : Origin) (a b : WordPlace) → Within start a → Within start b → index_of start a ≡ index_of start b → a ≡ b
+pub index-same : (start : Origin) (a b : WordPlace) → Within start a → Within start b
+    → index_of start a ≡ index_of start b → a ≡ b
 index-same start a b in-a in-b e = places-apart start a b in-a in-b e
 
 -- ---- lists of words
@@ -20,7 +22,8 @@ pub set-length : (o : Option ℕ) (i : ℕ) (words : List ℕ) → length (set_i
 set-length o i words = grind (arith, length-set)
 
 -- the table has as many words after steps as before
-pub follows-length : (start : Origin) (ds : List Did) (old new : List ℕ) → Follows start ds old new → length new ≡ length old
+pub follows-length : (start : Origin) (ds : List Did) (old new : List ℕ) → Follows start ds old new
+    → length new ≡ length old
 follows-length start [] old new f = ap (λ (t : List ℕ). length t) f
 follows-length start (d ∷ ds) old new f = follows-length start ds (set_if d.wrote (index_of start d.at) old) new f.1
     ∙ set-length d.wrote (index_of start d.at) old

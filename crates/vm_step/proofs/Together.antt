@@ -100,7 +100,8 @@ module _ {X : Type 0} where
       → Each Q vs
   all-within vs P Q f e = go vs (λ k t. t) e
     where
-      go : (l : List (View X)) → ((k : ℕ) → has k (all_used l) ≡ true → has k (all_used vs) ≡ true) → Each P l → Each Q l
+      go : (l : List (View X)) → ((k : ℕ) → has k (all_used l) ≡ true → has k (all_used vs) ≡ true) → Each P l
+          → Each Q l
       go [] within e' = tt
       go (v ∷ l) within e' = (
         f v (λ k t. within k (has-left k v.used (all_used l) t)) e'.0,

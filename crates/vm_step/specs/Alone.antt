@@ -60,5 +60,6 @@ module _ {X : Type 0} where
   -- there, and elsewhere the word
   -- that it knew
   pub record KnowsAfter (done : List Did) (v w : View X) : Type 0 where
-    pub kept : IsAlone v → (at : WordPlace) → Within v.start at → WritesNone at done → known_word_at w at ≡ known_word_at v at
+    pub kept : IsAlone v → (at : WordPlace) → Within v.start at → WritesNone at done
+        → known_word_at w at ≡ known_word_at v at
     pub left : IsAlone v → (at : WordPlace) (word : ℕ) → LeavesLast done at word → known_word_at w at ≡ word

@@ -1,4 +1,5 @@
--- The table after a move of a page's slot, and what a call of the page's device, seen when its block comes home, is to the core.
+-- The table after a move of a page's slot, and what a call of the page's device, seen when its block comes home, is
+-- to the core.
 use Rattle.std.specs.Prelude.{◌≡◌, List, Option, slice_set, Some, true, ℕ}
 use mathlib.Core.Option as maybe
 use Rattle.vm_event.specs.Prelude.{after_event, get_elem?, Legal, on_page, seen, some, State}
@@ -27,7 +28,8 @@ module _ {X B : Type 0} where
     abbrev pub ShowsSame : Table (Option B) (View X) → Table (Option B) (View X) → Type 0
     ShowsSame before later = core_shown stored start later ≡ core_shown stored start before
 
-    -- the table shows this core; where blocks do not tell their words, but for the words of page p's block, which are these
+    -- the table shows this core; where blocks do not tell their words, but for the words of page p's block, which are
+    -- these
     pub record ShowsBut (later : Table (Option B) (View X)) (c : State) (p : ℕ) (words : List ℕ) : Type 0 where
       pub core : core_shown stored start later ≡ with_block c p words
       pub told : start.tells ≡ true → core_shown stored start later ≡ c

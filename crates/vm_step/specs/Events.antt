@@ -1,6 +1,7 @@
 -- A step of the table is an event of the core.
 use Rattle.std.specs.Prelude.{◌==◌, ◌≡◌, Bool, if◌then◌else◌, List, Option, slice_index, slice_set, true, ℕ}
-use Rattle.vm_event.specs.{declared.event.Seen.Seen, Prelude.after_event, Prelude.get_elem?, Prelude.Legal, Prelude.seen, Prelude.some}
+use Rattle.vm_event.specs.{declared.event.Seen.Seen, Prelude.after_event, Prelude.get_elem?}
+use Rattle.vm_event.specs.{Prelude.Legal, Prelude.seen, Prelude.some}
 use Rattle.vm_event.specs.declared.event.Seen.TheVariants as sights
 use Rattle.vm_rule.specs.{declared.view.Origin.Origin, declared.view.View.View, declared.view.WordPlace.WordPlace}
 use Rattle.vm_rule.specs.Prelude.{core_shown, Event, index_of, Kept, Ruled, Start, Stored, Table, Within}
@@ -29,7 +30,8 @@ module _ {X B : Type 0} where
       pub there : get_elem? s.views id ≡ some v
       pub live : v.live ≡ true
 
-    -- from the core that the table shows before, the event is legal, leads to the core that the table shows later, and sees this
+    -- from the core that the table shows before, the event is legal, leads to the core that the table shows later,
+    -- and sees this
     pub record IsEvent (before later : Table (Option B) (View X)) (e : Event) (what : Seen) : Type 0 where
       pub legal : Legal (core_shown stored start before) e
       pub core : core_shown stored start later ≡ after_event (core_shown stored start before) e

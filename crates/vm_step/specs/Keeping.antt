@@ -1,4 +1,5 @@
--- What a step tells of the layer above: at the step it keeps its relation, and its history is the one that the pass has seen then.
+-- What a step tells of the layer above: at the step it keeps its relation, and its history is the one that the pass
+-- has seen then.
 use Rattle.std.specs.Prelude.{◌<◌, ◌≡◌, ◌≤◌, false, length, replicate, true, ℕ}
 use Rattle.vm_event.specs.Prelude.{page_at}
 use Rattle.vm_rule.specs.{declared.view.View.View, Prelude.began_of, Prelude.draft_of, Prelude.has, Prelude.IsLocking}
@@ -18,7 +19,8 @@ module _ {X : Type 0} where
     pub page : free → page_at kept.pages p ≡ (last_of w p).words
     pub members : (q : ℕ) → q < w.start.pages → has q w.pending ≡ true → page_at kept.pages q ≡ draft_of w q
     -- each other page that the pass has locked or shared, with its last words
-    pub held : (q : ℕ) → q < w.start.pages → IsLocking (seat_of w q) → has q w.pending ≡ false → page_at kept.pages q ≡ (last_of w q).words
+    pub held : (q : ℕ) → q < w.start.pages → IsLocking (seat_of w q) → has q w.pending ≡ false
+        → page_at kept.pages q ≡ (last_of w q).words
     -- a page of which the pass has a share is no such member
     pub shared : (q : ℕ) → q < w.start.pages → 1 ≤ (seat_of w q).shares → page_at kept.pages q ≡ (last_of w q).words
     -- pages that were never claimed have words of zeros; a pass that is alone knows the next one

@@ -56,7 +56,8 @@ module _ {X B : Type 0} where
       pub drafts : rule.drafts ≡ r.drafts
 
     -- what a table shows, with the releases and drafts of this rule
-    abbrev shown : (before : Table (Option B) (View X)) → Ruled stored keeps tied start tells before → Table (Option B) (View X) → World
+    abbrev shown : (before : Table (Option B) (View X)) → Ruled stored keeps tied start tells before
+        → Table (Option B) (View X) → World
     shown before r s = world_of stored start r.releases r.drafts s
 
     -- there is one actor more, the last one, which has nothing; all else is as before
@@ -66,7 +67,8 @@ module _ {X B : Type 0} where
       pub core : shown before r later ≡ with_actor (shown before r before)
       pub new : HasNone (shown before r later) (length before.views)
 
-    -- the frames and the page numbers of the actor `other` are the actor id's, and its reads are closed; all else is as before
+    -- the frames and the page numbers of the actor `other` are the actor id's, and its reads are closed; all else is
+    -- as before
     pub record IsTakenIn (before : Table (Option B) (View X)) (r : Ruled stored keeps tied start tells before) (id other : ℕ)
         (later : Table (Option B) (View X)) : Type 0 where
       pub goes : KeepsRule before r later

@@ -1,6 +1,6 @@
 -- One operation on a word of the table, by a pass that has no slot out: what the table is asked, and what the
--- operation tells. Each kind of step
--- says the second for itself: of the number found (at a store, the number stored), of the pass's view before, and of its view afterwards.
+-- operation tells. Each kind of step says the second for itself: of the number found (at a store, the number stored),
+-- of the pass's view before, and of its view afterwards.
 use Rattle.std.specs.Prelude.{[], ◌+◌, ◌<◌, ◌≡◌, ◌≤◌, Bool, length, true, ℕ}
 use Rattle.vm_rule.specs.{declared.view.Origin.Origin, declared.view.TableShape.TableShape}
 use Rattle.vm_rule.specs.{declared.view.WordPlace.TheVariants.Content, declared.view.WordPlace.WordPlace}
@@ -30,7 +30,8 @@ module _ {X : Type 0} where
     pub sound : Sound w
 
   -- what a step tells, as the table tells it of a seat
-  abbrev pub step_play : {S : Type 0} → (ℕ → View X → View X → Type 0) → Step S → Me S (View X) → ℕ → Me S (View X) → Type 0
+  abbrev pub step_play : {S : Type 0} → (ℕ → View X → View X → Type 0) → Step S → Me S (View X) → ℕ → Me S (View X)
+      → Type 0
   step_play told st m n m' = told n m.0 m'.0 × IsFit m'.0 × (m'.1 ≡ m.1)
 
   -- whatever the table is when the word at this place becomes f of what it was, pass id with the view v has a view

@@ -1,7 +1,8 @@
 -- A pass, as the clauses of the steps see it.
 use Rattle.std.specs.Prelude.{◌<◌, ◌≡◌, length, ℕ}
 use Rattle.vm_rule.specs.{declared.view.View.View, declared.words.Pass.Pass, Prelude.TableId, Prelude.view_of}
-use Rattle.vm_step.specs.{declared.took.Took.TheVariants.Lost, declared.took.Took.TheVariants.Taken, declared.took.Took.Took}
+use Rattle.vm_step.specs.{declared.took.Took.TheVariants.Lost, declared.took.Took.TheVariants.Taken}
+use Rattle.vm_step.specs.{declared.took.Took.Took}
 
 module _ {U X : Type 0} {o : _} where
   abbrev pub view : Pass U X o → View X

@@ -19,9 +19,12 @@ pub use Rattle.vm_step.specs.{steps.Next.PassMayClaim, steps.Raise.MayRaise, ste
 pub use Rattle.vm_step.specs.{steps.Share.MayUnshare, Still.HasStill, Tables.KnowsAt, Tables.KnowsElse}
 pub use Rattle.vm_step.specs.{Tables.KnowsSame, Together.HasJoined, Together.PassesSplit, Whole.CatchTold}
 pub use Rattle.vm_step.specs.{Whole.KnowsAll, Works.LeavesRest, Works.Works}
-pub use Rattle.vm_step.specs.Alone.{Follows, IsAlone, known_word_at, KnowsUnheld, LeavesLast, LeavesOnly, LocksNone, RunsAlone, WritesNone}
-pub use Rattle.vm_step.specs.Asides.{HoldsPage, IsAside, IsAsideOf, KeepsFrames, KeepsNumbers, KnowsAsBefore, ReadsAsBefore, StaysAlone}
+pub use Rattle.vm_step.specs.Alone.{Follows, IsAlone, known_word_at, KnowsUnheld, LeavesLast}
+pub use Rattle.vm_step.specs.Alone.{LeavesOnly, LocksNone, RunsAlone, WritesNone}
+pub use Rattle.vm_step.specs.Asides.{HoldsPage, IsAside, IsAsideOf, KeepsFrames}
+pub use Rattle.vm_step.specs.Asides.{KeepsNumbers, KnowsAsBefore, ReadsAsBefore, StaysAlone}
 pub use Rattle.vm_step.specs.Evidence.{AreQuiet, Begins, HasGiven, HasWritten, IsLost, IsSaw, IsWorn, NeedsPage}
 pub use Rattle.vm_step.specs.Evidence.{NoneExpected, NoWord, place_at, UnlockedExpected, WhyAgain}
 pub use Rattle.vm_step.specs.Operations.{AllowsStep, IsFit, IsFrameAt, IsOf, IsPlacedAt, MayGoOn, told_of}
-pub use Rattle.vm_step.specs.steps.Release.{IsClaimed, IsFirst, IsMember, MayDowngrade, MayEvict, MayGiveUp, ReleaseTells}
+pub use Rattle.vm_step.specs.steps.Release.{IsClaimed, IsFirst, IsMember, MayDowngrade}
+pub use Rattle.vm_step.specs.steps.Release.{MayEvict, MayGiveUp, ReleaseTells}

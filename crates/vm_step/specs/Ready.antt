@@ -1,6 +1,7 @@
 -- A pass that may step on over a table whose shape it knows: what every call above the steps asks for, and leaves.
 use Rattle.std.specs.Prelude.{Bool}
-use Rattle.vm_rule.specs.{declared.view.TableShape.TableShape, declared.words.Pass.Pass, declared.words.Words.Words, Prelude.TableId}
+use Rattle.vm_rule.specs.{declared.view.TableShape.TableShape, declared.words.Pass.Pass}
+use Rattle.vm_rule.specs.{declared.words.Words.Words, Prelude.TableId}
 use Rattle.vm_step.specs.{Operations.IsOf, Passes.IsSamePass, Passes.MayStep, Passes.view}
 
 module _ {U X : Type 0} {o : _} where

@@ -1,6 +1,7 @@
 -- A pass that has what it had, but for fresh parts and what it has seen of the two lists.
 use Rattle.std.specs.Prelude.{◌≡◌, ℕ}
-use Rattle.vm_rule.specs.{declared.view.View.View, Prelude.IsLocking, Prelude.last_of, Prelude.seat_of, Prelude.StartsWith}
+use Rattle.vm_rule.specs.{declared.view.View.View, Prelude.IsLocking, Prelude.last_of}
+use Rattle.vm_rule.specs.{Prelude.seat_of, Prelude.StartsWith}
 
 module _ {X : Type 0} where
   -- It has its numbers, entries, notes, frames, page numbers, locks, open reads and its group; its steps go on. Each

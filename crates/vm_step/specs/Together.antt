@@ -11,7 +11,8 @@ pub record HasPiece {A : Type 0} (l m : List A) : Type 0 where
   pub cut : l ≡ before ++ (m ++ behind)
 
 module _ {X : Type 0} where
-  -- the numbers and the notes of several views, the page numbers that they hold, and those that they have still to give, one after another
+  -- the numbers and the notes of several views, the page numbers that they hold, and those that they have still to
+  -- give, one after another
   abbrev pub all_used : List (View X) → List ℕ
   all_used [] = []
   all_used (v ∷ vs) = v.used ++ all_used vs
@@ -34,9 +35,9 @@ module _ {X : Type 0} where
     pub caught : CaughtUp w middle
     pub joins : JoinTold v middle x
 
-  -- The pass with the view v took in those with the views `others`, and has the view x then: its numbers and notes are its own and then
-  -- theirs, and so are its page numbers and its frames; the history that it knows goes on from what each of them had
-  -- seen, and has no further entry of any of them.
+  -- The pass with the view v took in those with the views `others`, and has the view x then: its numbers and notes
+  -- are its own and then theirs, and so are its page numbers and its frames; the history that it knows goes on from
+  -- what each of them had seen, and has no further entry of any of them.
   pub record HasJoined (v : View X) (others : List (View X)) (x : View X) : Type 0 where
     pub start : x.start ≡ v.start
     pub used : x.used ≡ v.used ++ all_used others
@@ -56,8 +57,8 @@ module _ {X : Type 0} where
     pub nothing : HoldsNoPage v → HoldsNoPage x
     pub current : v.current ≡ true → x.current ≡ true
 
-  -- a pass that was split off one with the view x: it has one number, knows what the other knows of the two lists, and knows, has and holds
-  -- nothing else
+  -- a pass that was split off one with the view x: it has one number, knows what the other knows of the two lists,
+  -- and knows, has and holds nothing else
   pub record IsNew (x w : View X) : Type 0 where
     pub number : length w.used ≡ 1
     pub new : w ≡ record (view_from true x.start w.used []) { releases = x.releases; seen = x.seen }

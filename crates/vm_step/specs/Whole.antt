@@ -17,7 +17,8 @@ module _ {X : Type 0} where
     pub paid : HoldsNoPage w → (w.pending ≡ []) × (w.owed ≡ [])
     pub all : IsWhole w → w.mine ≡ w.seen
     pub stands : tells ≡ true → IsWhole w → HoldsNoPage w → keeps (began_of w.start) (kept_by w)
-    pub last : IsWhole w → (p word : ℕ) → p < w.start.pages → HasGiven w.log (places.State p) word → version_of word ≤ (last_of w p).version
+    pub last : IsWhole w → (p word : ℕ) → p < w.start.pages → HasGiven w.log (places.State p) word
+        → version_of word ≤ (last_of w p).version
     pub next : IsWhole w → (x : ℕ) → HasGiven w.log places.Next x → x ≤ (kept_by w).next
 
   pub record CatchTold (tells : Bool) (keeps : Start → Kept X → Type 0) (v w : View X) : Type 0 where

@@ -51,15 +51,18 @@ frame-some (Some m) (Some n) d e = e
 frame-some None (Some n) d e = cc
 frame-some (Some m) None d e = cc
 
-frame-same : (b : Bool) (t u : Option Mapping) (d : Option ℕ) → (b ≡ true → frame_of t ≡ frame_of u) → frame-by b t d ≡ frame-by b u d
+frame-same : (b : Bool) (t u : Option Mapping) (d : Option ℕ) → (b ≡ true → frame_of t ≡ frame_of u)
+    → frame-by b t d ≡ frame-by b u d
 frame-same false t u d e = refl
 frame-same true t u d e = frame-some t u d (e refl)
 
-frame-mapped : (b : Bool) (t : Option Mapping) (m : Mapping) (d : Option ℕ) → b ≡ true → t ≡ Some m → frame-by b t d ≡ Some m.frame
+frame-mapped : (b : Bool) (t : Option Mapping) (m : Mapping) (d : Option ℕ) → b ≡ true → t ≡ Some m
+    → frame-by b t d ≡ Some m.frame
 frame-mapped b t m d locks is = rw (locks, is) refl
 
 -- the pass knows the frame of a page that it has locked
-pub frame-known : (y : Seat) (h : Held) (r : Page) → KnowsPage y h r → IsLocking y → frame_of h.mapping ≡ frame_of r.trans
+pub frame-known : (y : Seat) (h : Held) (r : Page) → KnowsPage y h r → IsLocking y
+    → frame_of h.mapping ≡ frame_of r.trans
 frame-known y h r k = ⊎_elim (λ x. ap frame_of (k.calls (rw x refl)).0) (λ x. k.shares x)
 
 -- a frame's words stand one behind another
@@ -86,7 +89,8 @@ module _ {X B : Type 0} (stored : B → Stored) (start : Origin) (s : Table (Opt
       (λ e. sym (frame-known (seat_of v p) (put_at no_held v.held p) page k (locking-is (seat_of v p) e)))
 
   -- where the pass has the page locked, and the page is resident, that is the page's frame
-  pub reads-mapped : (m : Mapping) (f : ℕ) → page.trans ≡ Some m → IsLocking (seat_of v p) → load_frame page id ≡ Some f → m.frame ≡ f
+  pub reads-mapped : (m : Mapping) (f : ℕ) → page.trans ≡ Some m → IsLocking (seat_of v p)
+      → load_frame page id ≡ Some f → m.frame ≡ f
   reads-mapped m f is locks reads =
       some-same m.frame f (sym (frame-mapped ((seat_of v p).exclusive || nat_lt 0 (seat_of v p).shares) page.trans m
       (open_frame (seat_of v p).reading) (is-locking (seat_of v p) locks) is) ∙ sym seat-reads ∙ reads)
@@ -103,7 +107,8 @@ module _ {X B : Type 0} (stored : B → Stored) (keeps : Start → Kept X → Ty
         dirty = true;
       }) d.owns d.stands).1 ∙ eq-eqb f f refl
 
-  pub store-legal : (p f i x : ℕ) → f < start.frames → i < start.size → Drafts v p f → Legal (core_shown stored start s) (Store id f i x)
+  pub store-legal : (p f i x : ℕ) → f < start.frames → i < start.size → Drafts v p f
+      → Legal (core_shown stored start s) (Store id f i x)
   store-legal p f i x lf li d =
       let known = stands-known stored keeps tied start tells s r id v there live p (record { frame = f; dirty = true }) d.owns d.stands in
       record {
@@ -276,7 +281,8 @@ module _ {X B : Type 0} (stored : B → Stored) (keeps : Start → Kept X → Ty
         },
       ))
 
-  -- a store into the frame of a page, or into a frame of the pass, keeps the rule of every table and tells what it is to tell
+  -- a store into the frame of a page, or into a frame of the pass, keeps the rule of every table and tells what it is
+  -- to tell
   pub store-allows : (shape : TableShape) (slots id : ℕ) (v : View X) (i : ℕ) (f j x : ℕ) → v.live ≡ true
       → 0 < length v.used → f < shape.frames → j < shape.size → PassMayStore v f
       → IsPlacedAt shape (places.Content f j) i
@@ -364,7 +370,8 @@ module _ {X B : Type 0} (stored : B → Stored) (keeps : Start → Kept X → Ty
       (ap sights.Word (ap (λ o. word_at c.words o i) reads ∙ content-here stored start s f i finds.0.0 finds.0.1 ∙ sym finds.1))
 
 module _ {X : Type 0} {p f i x : ℕ} {v w : View X} (t : StoreTold p f i x v w) where
-  pub store-others : (touched : ℕ → Type 0) → touched p → LeavesOthers touched ((did_store (places.Content f i) x) ∷ []) [] v w
+  pub store-others : (touched : ℕ → Type 0) → touched p
+      → LeavesOthers touched ((did_store (places.Content f i) x) ∷ []) [] v w
   store-others touched at = others-tied t.brings ([], refl) tt (λ q ne. refl) (λ q ne. refl) (λ q ne. refl)
       (λ q ne. upd-other (put_at [] v.drafts) p _ q (apart touched at q ne))
 
@@ -387,7 +394,8 @@ module _ {X : Type 0} {p f i x : ℕ} {v w : View X} (t : StoreTold p f i x v w)
   store-last = last-still t.brings refl
 
 module _ {X : Type 0} {p f i found : ℕ} {v w : View X} (t : LoadTold p f i found v w) where
-  pub load-others : (touched : ℕ → Type 0) → touched p → LeavesOthers touched (did_load (places.Content f i) found ∷ []) [] v w
+  pub load-others : (touched : ℕ → Type 0) → touched p
+      → LeavesOthers touched (did_load (places.Content f i) found ∷ []) [] v w
   load-others touched at = others-tied t.brings ([], refl) tt (λ q ne. refl)
       (λ q ne. upd-other (put_at [] v.loads) p _ q (apart touched at q ne)) (λ q ne. refl) (λ q ne. refl)
 

@@ -2,7 +2,8 @@
 -- of several steps in a row.
 -- The files of the kinds beside this one say of each which pages it speaks of, and what it leaves of them.
 use Rattle.vm_step.proofs.Alone.{runs-one, runs-self, runs-then}
-use Rattle.vm_step.proofs.Asides.{alone-self, keeps-self, keeps-then, numbers-self, numbers-then, OnlyReads, starts-then}
+use Rattle.vm_step.proofs.Asides.{alone-self, keeps-self, keeps-then, numbers-self}
+use Rattle.vm_step.proofs.Asides.{numbers-then, OnlyReads, starts-then}
 use Rattle.vm_step.proofs.Prelude.{[], ap, append-none, append_assoc, BringsWith, Did, draft_of, Each, Entry, Held}
 use Rattle.vm_step.proofs.Prelude.{held_at, History, HoldsPage, IsAsideOf, IsLocking, KeepsFrames, KeepsNumbers}
 use Rattle.vm_step.proofs.Prelude.{KnowsAsBefore, last-is, last_in, last_of, LeavesRest, List, loads_at, no_held}
@@ -32,8 +33,8 @@ none-of touched [] q ne e = tt
 none-of touched (r ∷ own) q ne e = ((λ is. ne (subst touched (sym is) e.0)), none-of touched own q ne e.1)
 
 module _ {X : Type 0} where
-  -- the call made these steps and these releases, and speaks of the pages touched alone: all others are as they were, and so are the pass's
-  -- frames, its notes and the block that is out. What it says, and the group, may be others.
+  -- the call made these steps and these releases, and speaks of the pages touched alone: all others are as they were,
+  -- and so are the pass's frames, its notes and the block that is out. What it says, and the group, may be others.
   pub record LeavesOthers (touched : ℕ → Type 0) (done : List Did) (own : List Release) (v w : View X) : Type 0 where
     pub log : w.log ≡ v.log ++ done
     pub live : w.live ≡ v.live
@@ -182,7 +183,8 @@ module _ {X : Type 0} where
       → LeavesOthers touched (did ∷ []) [] v w
   others-still b = others-tied b ([], refl) tt (λ q ne. refl) (λ q ne. refl) (λ q ne. refl) (λ q ne. refl)
 
-  -- what the pass knows of a page that it has locked stays, where the step changes neither that nor a draft, and releases nothing
+  -- what the pass knows of a page that it has locked stays, where the step changes neither that nor a draft, and
+  -- releases nothing
   pub knows-still : {did : Did} {entries : List (Entry X)} {v inner w : View X}
       → BringsWith did None [] entries v inner w → inner.start ≡ v.start → inner.held ≡ v.held
       → inner.drafts ≡ v.drafts
@@ -226,7 +228,8 @@ module _ {X : Type 0} where
   pub own-from : {did : Did} {block : Option (ℕ × Stored)} {own : List Release} {entries : List (Entry X)}
       {v inner w : View X} → BringsWith did block own entries v inner w
       → inner.mine ≡ v.mine → (inner.pending ≡ v.pending) × (inner.owed ≡ v.owed) × (inner.next ≡ v.next)
-      → (inner.start ≡ v.start) × (v.start.tells ≡ true → (inner.numbers ≡ v.numbers) × (inner.freed ≡ v.freed)) → LeavesOwn v w
+      → (inner.start ≡ v.start) × (v.start.tells ≡ true → (inner.numbers ≡ v.numbers) × (inner.freed ≡ v.freed))
+      → LeavesOwn v w
   own-from b mine group numbers = record {
     mine = ap (λ (x : View X). x.mine) b.view ∙ mine;
     group = (

@@ -1,4 +1,5 @@
--- An exclusive lock that is tried: what it shows of itself, what it tells; that the table allows it, and that it is its event.
+-- An exclusive lock that is tried: what it shows of itself, what it tells; that the table allows it, and that it is
+-- its event.
 --
 -- What an exclusive lock leaves that was taken: it speaks of one page, whose open read is closed, whose draft is its
 -- last words, and which the
@@ -11,8 +12,10 @@ use Rattle.vm_rule.specs.Spread.{group_of}
 use Rattle.vm_step.specs.Over.{InTurn}
 use Rattle.vm_step.proofs.Over.{over-each}
 use Rattle.vm_rule.specs.declared.view.WordPlace.TheVariants as places
-use Rattle.vm_step.proofs.{Evidenced.taken-view, Fit.either-has, Fit.either-lives, Fit.fit, Here.last, Here.world, Standing.allows}
-use Rattle.vm_step.proofs.Exchange.{exchange-event, free-member, free-unheld, held-at, known-held, lockx-exchange, opened, owner-shows}
+use Rattle.vm_step.proofs.{Evidenced.taken-view, Fit.either-has, Fit.either-lives, Fit.fit}
+use Rattle.vm_step.proofs.{Here.last, Here.world, Standing.allows}
+use Rattle.vm_step.proofs.Exchange.{exchange-event, free-member, free-unheld, held-at}
+use Rattle.vm_step.proofs.Exchange.{known-held, lockx-exchange, opened, owner-shows}
 use Rattle.vm_step.proofs.Exchange.{known-owner, page_held, tried, tried-validates}
 use Rattle.vm_step.proofs.Prelude.{became, get_elem?, Option, Ruled, slice_set, some, Table}
 use Rattle.vm_step.proofs.Prelude.{[], AllowsStep, ap, arith, Bool, Brings, Did, did_exchange, draft_of, each-map}
@@ -99,7 +102,8 @@ module _ {X B : Type 0} (stored : B → Stored) (keeps : Start → Kept X → Ty
         )
 
     -- so it is on every table
-    pub lock_exclusive-allows : (shape : TableShape) (slots id : ℕ) (v : View X) (i : ℕ) (p expects x : ℕ) → v.live ≡ true
+    pub lock_exclusive-allows : (shape : TableShape) (slots id : ℕ) (v : View X) (i : ℕ) (p expects x : ℕ)
+        → v.live ≡ true
         → 0 < length v.used → p < shape.pages → MayLock expects → x ≡ (word_of LOCKED (version_of expects))
         → IsPlacedAt shape (places.State p) i → IsUngrouped shape.began.origin.groups p
         → AllowsStep (Stands stored keeps tied shape tells) slots id v i (λ n. either (eqb n expects) x n)

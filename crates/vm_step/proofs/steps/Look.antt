@@ -2,7 +2,8 @@
 -- then and what a pass that is alone
 -- knows; that the table allows it, and that it is its event.
 --
--- What a look leaves: it speaks of the open read of one page, and says at most one entry. Under a lock of the page nothing changes.
+-- What a look leaves: it speaks of the open read of one page, and says at most one entry. Under a lock of the page
+-- nothing changes.
 use Rattle.std.proofs.Common.{eq-eqb, map, ne_eqb}
 use Rattle.std.proofs.lemmas.Bool.{false≢true}
 use Rattle.vm_event.specs.declared.event.ReadIs.TheVariants as read
@@ -19,7 +20,8 @@ use Rattle.vm_step.specs.steps.Look.{AreReadTogether, MayTellTogether, said_at}
 use Rattle.vm_rule.specs.declared.view.WordPlace.TheVariants as places
 use Rattle.vm_step.proofs.{Asides.alone-silent, Asides.OnlyReads, Fit.fit, Keeping.kept-now, Keeping.shared-free}
 use Rattle.vm_step.proofs.{Quiet.event-shows, Standing.allows, Unclaimed.logical-zero, Written.word-loaded}
-use Rattle.vm_step.proofs.Here.{frame-inside, last-told, older, read-valid, reads, since, size-told, tied-itself, ties-hold, version-told}
+use Rattle.vm_step.proofs.Here.{frame-inside, last-told, older, read-valid, reads}
+use Rattle.vm_step.proofs.Here.{since, size-told, tied-itself, ties-hold, version-told}
 use Rattle.vm_step.proofs.Logical.{not-pending, page-kept, pages-kept, tied-now}
 use Rattle.vm_step.proofs.Mine.{no-member}
 use Rattle.vm_step.proofs.Prelude.{holdings, [], after_step, AllowsStep, any-here, any-same, ap, append-none, arith}
@@ -28,7 +30,8 @@ use Rattle.vm_step.proofs.Prelude.{Closed, cond-false, cond-true, core_shown, Di
 use Rattle.vm_step.proofs.Prelude.{each-both, each-map, each-upd2, entries_of, entries_under, Entry, entry_of, eqb}
 use Rattle.vm_step.proofs.Prelude.{eqb-true, EVICTED, false, frame_of, fun_ext, get_elem?, has, has-first}
 use Rattle.vm_step.proofs.Prelude.{histories_of, HoldsPage, if◌then◌else◌, index_of, inl, inr, is_owed, is_pending}
-use Rattle.vm_step.proofs.Prelude.{is_readable, IsFit, IsKeptNow, IsLocking, IsPlacedAt, IsTurn, Kept, kept_loads, kept_of}
+use Rattle.vm_step.proofs.Prelude.{is_readable, IsFit, IsKeptNow, IsLocking, IsPlacedAt}
+use Rattle.vm_step.proofs.Prelude.{IsTurn, Kept, kept_loads, kept_of}
 use Rattle.vm_step.proofs.Prelude.{KnowsAsBefore, KnowsLists, KnowsPage, KnowsPages, KnowsUnheld, last_in, LeavesRest}
 use Rattle.vm_step.proofs.Prelude.{left_at, left_of, left_open, length, List, loads_at, LOCKED, LocksNone, logical}
 use Rattle.vm_step.proofs.Prelude.{Look, look-step, looked, looked_view, LookIsItsEvent, LookTells, LookTold, Mapping}
@@ -37,12 +40,14 @@ use Rattle.vm_step.proofs.Prelude.{next-here, no_held, no_seat, None, Open, open
 use Rattle.vm_step.proofs.Prelude.{Page, page-open, page_at, put_at, ReadIs, refl, Release, Ruled, Same, same-word}
 use Rattle.vm_step.proofs.Prelude.{Seat, seat-here, seat_of, set_here, Shows, TableShape, slice_index, slice_set}
 use Rattle.vm_step.proofs.Prelude.{Some, some, some-is, Stands, Start, State, state-here, state_of, steps, Stored}
-use Rattle.vm_step.proofs.Prelude.{subst, suc, sym, Table, Tie, tie_of, TieHolds, ties_below, told, told_of, Translation}
+use Rattle.vm_step.proofs.Prelude.{subst, suc, sym, Table, Tie, tie_of}
+use Rattle.vm_step.proofs.Prelude.{TieHolds, ties_below, told, told_of, Translation}
 use Rattle.vm_step.proofs.Prelude.{TranslationHolds, true, UNLOCKED, upd-keeps, upd-other, upd-same, Version}
 use Rattle.vm_step.proofs.Prelude.{version-here, version_of, View, where_same, word-here, World, world_after}
 use Rattle.vm_step.proofs.Prelude.{world_of, zero, ℕ, ⊎_elim, ◌++◌, ◌+◌, ◌<◌, ◌∙◌, ◌∷◌, ◌≡◌, ◌≢◌, ◌≤◌, ◌⊎◌}
 use Rattle.vm_step.proofs.steps.Event.{is-event}
-use Rattle.vm_step.proofs.steps.Leaving.{apart, knows-still, LeavesOthers, LeavesOwn, only-of, others-tied, own-from, rest-of}
+use Rattle.vm_step.proofs.steps.Leaving.{apart, knows-still, LeavesOthers, LeavesOwn}
+use Rattle.vm_step.proofs.steps.Leaving.{only-of, others-tied, own-from, rest-of}
 
 same-version : (n : ℕ) (o : Option Open) → left_open o n ≡ Same → (x : Open) × (o ≡ Some x) × (x.version ≡ n)
 same-version n None e = cc
@@ -73,7 +78,8 @@ free-here stored start s p l o same e =
     (sym (state-here stored start s p l) ∙ e)
 
 -- what comes only where the read stays: it is so with nothing, and where the read stays with what comes
-where-same-keeps : {A : Type 0} (P : List A → Type 0) (left : ReadIs) (l : List A) → P [] → (left ≡ Same → P l) → P (where_same left l [])
+where-same-keeps : {A : Type 0} (P : List A → Type 0) (left : ReadIs) (l : List A) → P [] → (left ≡ Same → P l)
+    → P (where_same left l [])
 where-same-keeps P Same l none some' = some' refl
 where-same-keeps P _ l none some' = none
 
@@ -523,8 +529,8 @@ module _ {X B : Type 0} (stored : B → Stored) (keeps : Start → Kept X → Ty
         may number)
 
     module _ (shape : TableShape) (h : ℕ) (said : Option X) where
-      -- the pass may step on over these pages; where the group's first page is among them, it is the next, and they prove
-      -- what is said there
+      -- the pass may step on over these pages; where the group's first page is among them, it is the next, and they
+      -- prove what is said there
       record MaySay (qs : List ℕ) (u : View X) : Type 0 where
         live : u.live ≡ true
         number : 0 < length u.used
@@ -609,7 +615,8 @@ module _ {X B : Type 0} (stored : B → Stored) (keeps : Start → Kept X → Ty
 
   -- so it is on every table
   pub look-allows : (shape : TableShape) (slots id : ℕ) (v : View X) (i : ℕ) (p : ℕ) (said : Option X) → v.live ≡ true
-      → 0 < length v.used → p < shape.pages → MayTell tied may_read p said v → IsPlacedAt shape (places.State p) i → IsUngrouped shape.began.origin.groups p
+      → 0 < length v.used → p < shape.pages → MayTell tied may_read p said v → IsPlacedAt shape (places.State p) i
+      → IsUngrouped shape.began.origin.groups p
       → AllowsStep (Stands stored keeps tied shape tells) slots id v i (λ n. n) (told_of shape tells (LookTells keeps tied tells p said))
   look-allows shape slots id v i p said live number l may is none =
       allows stored keeps tied shape tells slots id v i (places.State p) (λ n. n) (λ n. n)
@@ -658,7 +665,8 @@ same-both _ x = refl
 
 module _ {X : Type 0} {tied : Start → ℕ → List ℕ → ℕ → List ℕ → Type 0} {p found : ℕ} {said : Option X} {v w : View X}
     (t : LookTold tied p said found v w) where
-  pub look-others : (touched : ℕ → Type 0) → touched p → LeavesOthers touched ((did_load (places.State p) found) ∷ []) [] v w
+  pub look-others : (touched : ℕ → Type 0) → touched p
+      → LeavesOthers touched ((did_load (places.State p) found) ∷ []) [] v w
   look-others touched at =
       others-tied t.brings (_, refl) tt
       (λ q ne. upd-other (put_at no_seat v.seats) p _ q (apart touched at q ne))

@@ -246,7 +246,8 @@ module _ {X B : Type 0} (stored : B → Stored) (keeps : Start → Kept X → Ty
         (says, says ∙ sym (ap (with_dirty dirty) stood))
 
     -- it stays in its frame
-    remapped-shows : (f : ℕ) (was dirty : Bool) (e : Event) → p < start.pages → (core.pages p).trans ≡ in_frame f was → Legal core e
+    remapped-shows : (f : ℕ) (was dirty : Bool) (e : Event) → p < start.pages → (core.pages p).trans ≡ in_frame f was
+        → Legal core e
         → (mapping_of (trans_word (in_frame f dirty)) ≡ with_dirty dirty (core.pages p).trans
         → world_of stored start r.releases r.drafts
         (became stored keeps tied start tells s (words_with (in_frame f dirty)) id
@@ -429,7 +430,8 @@ module _ {X B : Type 0} (stored : B → Stored) (start : Origin) (keeps : Start 
       (fits f false small) (λ h. ap (λ (y : View X). has h y.frames) view ∙ has-left f h v.frames))
       refl
 
-  pub clear-event : StandsClean v p f → ClearTold p f v w → IsEvent stored start s (then_with None) (Clear id p) sights.Done
+  pub clear-event : StandsClean v p f → ClearTold p f v w
+      → IsEvent stored start s (then_with None) (Clear id p) sights.Done
   clear-event stands told =
       let view = told.brings.view in
       is-event (clear-legal stored keeps tied start tells s pass.rule id v p pass.there pass.live f stands)
@@ -441,7 +443,8 @@ module _ {X B : Type 0} (stored : B → Stored) (start : Origin) (keeps : Start 
       pass.rule id v p pass.there pass.live f stands h))
       refl
 
-  pub set_dirty-event : StandsIn v p f → DirtyTold p f v w → IsEvent stored start s (then_with (Some (dirty_in f))) (Dirty id p) sights.Done
+  pub set_dirty-event : StandsIn v p f → DirtyTold p f v w
+      → IsEvent stored start s (then_with (Some (dirty_in f))) (Dirty id p) sights.Done
   set_dirty-event stands told =
       let view = told.brings.view in
       let known = dirty-known stored keeps tied start tells s pass.rule id v p pass.there pass.live f stands in

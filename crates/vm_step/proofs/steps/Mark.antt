@@ -1,4 +1,5 @@
--- A mark that is set or taken away: it leaves all that the pass has and knows; that the table allows it, and that it is its event.
+-- A mark that is set or taken away: it leaves all that the pass has and knows; that the table allows it, and that it
+-- is its event.
 use Rattle.vm_event.specs.Groups.{head_in, IsUngrouped}
 use Rattle.vm_rule.specs.Spread.{group_of}
 use Rattle.vm_step.specs.Over.{InTurn}

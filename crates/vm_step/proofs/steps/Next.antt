@@ -2,7 +2,8 @@
 -- the table allows them, and that they are
 -- their events.
 --
--- What a step on the next word leaves: it speaks of no page. A load tells the next page to who holds it; a claim owes pages.
+-- What a step on the next word leaves: it speaks of no page. A load tells the next page to who holds it; a claim owes
+-- pages.
 use Rattle.std.proofs.Common.{eq-eqb}
 use Rattle.vm_event.specs.declared.event.Seen.TheVariants as sights
 use Rattle.std.specs.Prelude.{map}
@@ -393,5 +394,6 @@ module _ {X : Type 0} (x n : ℕ) {found : ℕ} {v w : View X} (e : found ≡ x)
   pub claim-brings : Brings (did_exchange places.Next x found (x + n)) [] [] v (claimed_view x n v) w
   claim-brings = taken-view (did_exchange places.Next x found (x + n)) x found v (claimed_view x n v) w e t.brings
 
-  pub claim-others : (touched : ℕ → Type 0) → LeavesOthers touched (did_exchange places.Next x found (x + n) ∷ []) [] v w
+  pub claim-others : (touched : ℕ → Type 0)
+      → LeavesOthers touched (did_exchange places.Next x found (x + n) ∷ []) [] v w
   claim-others touched = others-tied claim-brings ([], refl) tt (λ q ne. refl) (λ q ne. refl) (λ q ne. refl) (λ q ne. refl)

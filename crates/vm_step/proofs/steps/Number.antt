@@ -7,7 +7,8 @@ use Rattle.vm_event.specs.Step.{NamesSpares}
 use Rattle.vm_owner.specs.Kept.{MayMove, moved, NumberMove}
 use Rattle.vm_rule.specs.declared.view.WordPlace.TheVariants as places
 use Rattle.vm_rule.specs.FreeNumbers.{GiveNumbersTold, numbered_view, SpareTold, TakeNumbersTold}
-use Rattle.vm_rule.proofs.{Found.spare-here, FrameWorlds.give_numbers-step, FrameWorlds.lost-take_numbers, FrameWorlds.take_numbers-step}
+use Rattle.vm_rule.proofs.{Found.spare-here, FrameWorlds.give_numbers-step}
+use Rattle.vm_rule.proofs.{FrameWorlds.lost-take_numbers, FrameWorlds.take_numbers-step}
 use Rattle.vm_rule.proofs.NumberSteps.{may-be-given, numbers-given, numbers-taken, numbers-with, numbers-without}
 use Rattle.vm_step.specs.steps.Number.{PassMayGiveNumbers, PbloadIsItsEvent, PgiveIsItsEvent, PtakeIsItsEvent}
 use Rattle.vm_step.proofs.{Exchange.tried-event, Fit.either-has, Fit.either-lives, Fit.fit, Here.world}

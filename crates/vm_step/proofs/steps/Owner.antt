@@ -197,7 +197,8 @@ module _ {X : Type 0} {p f : ℕ} {v i w : View X} (t : InstallTold p f v i) (o 
   settle-notes = ap (λ (x : View X). x.notes) o.brings.view ∙ ap (λ (x : View X). x.notes) t.brings.view
 
 -- a page stands in the frame that it is to own
-pub stands-installed : {X : Type 0} {p f : ℕ} {v i : View X} → (seat_of v p).exclusive ≡ true → InstallTold p f v i → StandsIn i p f
+pub stands-installed : {X : Type 0} {p f : ℕ} {v i : View X} → (seat_of v p).exclusive ≡ true → InstallTold p f v i
+    → StandsIn i p f
 stands-installed {X} {p} {f} {v} {i} owns t = record {
   owns = ap (λ (x : View X). (seat_of x p).exclusive) t.brings.view ∙ owns;
   dirty = false;

@@ -14,13 +14,15 @@ use Rattle.vm_owner.specs.Kept.{after_release as released_kept, changed, frees, 
 use Rattle.vm_owner.specs.Kept.NumberMove.{Ended}
 use Rattle.vm_rule.specs.Releases.{freed_by}
 use Rattle.vm_rule.specs.Rule.{hands_of}
-use Rattle.vm_rule.proofs.{NumberReleases.first-release-fits, NumberReleases.later-release-fits, Numbered.hands-there, Numbered.numbers-as}
+use Rattle.vm_rule.proofs.{NumberReleases.first-release-fits, NumberReleases.later-release-fits}
+use Rattle.vm_rule.proofs.{Numbered.hands-there, Numbered.numbers-as}
 use Rattle.vm_event.specs.Groups.{IsUngrouped}
 use Rattle.vm_rule.specs.declared.view.WordPlace.TheVariants as places
 use Rattle.vm_step.proofs.{Asides.alone-release, Evidenced.next-stays, Fit.fit, Keeping.kept-now, Keeping.shared-free}
 use Rattle.vm_step.proofs.{OwedPages.owed_after-chosen, Releasing.Way.Evicts, Standing.allows, steps.Look.is-turn}
 use Rattle.vm_step.proofs.{Unclaimed.draft-unclaimed, Written.spelled-still, Written.stands-there}
-use Rattle.vm_step.proofs.Groups.{changed-listed, chosen-has, has-without_all, has-without_all_other, has-without_all_same, listed-agrees}
+use Rattle.vm_step.proofs.Groups.{changed-listed, chosen-has, has-without_all}
+use Rattle.vm_step.proofs.Groups.{has-without_all_other, has-without_all_same, listed-agrees}
 use Rattle.vm_step.proofs.Logical.{logical-draft, logical-last, logical-same, not-pending, page-listed}
 use Rattle.vm_step.proofs.Mine.{member-mine, no-member, not-member, not-owed, owed-mine}
 use Rattle.vm_step.proofs.Prelude.{[], after_release, Agrees, AllowsStep, any-here, any-same, any-true, ap}
@@ -37,7 +39,8 @@ use Rattle.vm_step.proofs.Prelude.{MayDowngrade, MayEvict, MayGiveUp, ne_eqb, ne
 use Rattle.vm_step.proofs.Prelude.{Option, or_parts, Origin, owed_after, Page, page_at, put, put_at, refl, Release}
 use Rattle.vm_step.proofs.Prelude.{release-here, released_same, released_view, ReleaseEvictedIsItsEvent}
 use Rattle.vm_step.proofs.Prelude.{ReleaseIsItsEvent, ReleaseTells, ReleaseTold, replicate, Ruled, Seat, seat_of}
-use Rattle.vm_step.proofs.Prelude.{became, set_here, Shows, Table, slice_index, TableShape, slice_set, Some, some, Stands, Start}
+use Rattle.vm_step.proofs.Prelude.{became, set_here, Shows, Table, slice_index, TableShape}
+use Rattle.vm_step.proofs.Prelude.{slice_set, Some, some, Stands, Start}
 use Rattle.vm_step.proofs.Prelude.{StaysAlone, steps, Stored, subst, suc, sym, table_after, told_of, true, true≢false}
 use Rattle.vm_step.proofs.Prelude.{upd-other, upd-same, View, without, without-none, word_of, world_of, ℕ, ⊎_elim}
 use Rattle.vm_step.proofs.Prelude.{◌++◌, ◌+◌, ◌<◌, ◌||◌, ◌∙◌, ◌∷◌, ◌≡◌, ◌≢◌, ◌≤◌}
@@ -76,7 +79,8 @@ swapped : (x q : ℕ) → eqb x q ≡ eqb q x
 swapped x q = ⊎_elim (λ e. eq-eqb x q e ∙ sym (eq-eqb q x (sym e)))
     (λ ne. ne_eqb x q ne ∙ sym (ne_eqb q x (λ e. ne (sym e)))) (cases_eq x q)
 
-frees-one : (b : Bool) (x q : ℕ) (f : Bool) (l : List ℕ) → f ≡ has q l → ((eqb x q && b) || f) ≡ has q (if b then x ∷ l else l)
+frees-one : (b : Bool) (x q : ℕ) (f : Bool) (l : List ℕ) → f ≡ has q l
+    → ((eqb x q && b) || f) ≡ has q (if b then x ∷ l else l)
 frees-one true x q f l e = (λ i. (and-true (eqb x q) ∙ swapped x q) i || e i)
 frees-one false x q f l e = ap (λ b. b || f) (and-false (eqb x q)) ∙ e
 
@@ -309,7 +313,8 @@ module _ {X B : Type 0} {stored : B → Stored} {keeps : Start → Kept X → Ty
   -- ---- the page numbers, where the blocks tell their words
 
   module _ (t : start.tells ≡ true) where
-    numbers-are : (b : Bool) → all_zero (draft_of rel.v rel.p) ≡ b → w.numbers ≡ (if b then rel.v.numbers else without rel.p rel.v.numbers)
+    numbers-are : (b : Bool) → all_zero (draft_of rel.v rel.p) ≡ b
+        → w.numbers ≡ (if b then rel.v.numbers else without rel.p rel.v.numbers)
     numbers-are b is = ap (λ (x : Hands). x.numbers) (hands-are rel t)
         ∙ ap (λ c. if c then rel.v.numbers else without rel.p rel.v.numbers) ((λ i. (tells-here rel ∙ t) i && is i))
 
@@ -327,7 +332,8 @@ module _ {X B : Type 0} {stored : B → Stored} {keeps : Start → Kept X → Ty
         (hands-there (slice_set rel.s.views rel.id w) k.0 k.1 k.2) rel.p k.3).0 ∙ ap all_zero (last-here rel)
         ∙ z))
 
-    held-ends : all_zero (draft_of rel.v rel.p) ≡ false → after.held ≡ (λ q. if q == rel.p then false else before.held q)
+    held-ends : all_zero (draft_of rel.v rel.p) ≡ false
+        → after.held ≡ (λ q. if q == rel.p then false else before.held q)
     held-ends z =
         fun_ext (λ q. ⊎_elim
         (λ (e : q ≡ rel.p). ap after.held e ∙ nobody z ∙ sym (ap (λ b. if b then false else before.held q) (eq-eqb q rel.p e)))
@@ -543,7 +549,8 @@ module _ {X B : Type 0} (stored : B → Stored) (keeps : Start → Kept X → Ty
     (moves : (start : Start) (kept : Kept X) (move : NumberMove) → keeps start kept → MayMove kept move
     → keeps start (moved move kept)) where
   -- the layer above keeps its relation
-  release-owner : (start : Origin) (tells : Bool) (rel : Releasing stored keeps tied start tells may_release) → 0 < length rel.v.used
+  release-owner : (start : Origin) (tells : Bool) (rel : Releasing stored keeps tied start tells may_release)
+      → 0 < length rel.v.used
       → start.tells ≡ true → keeps (began_of start) (kept_of (old rel) rel.r.history rel.s.views)
       → keeps (began_of start)
       (kept_of (world_of stored start (releases rel) rel.r.drafts (new rel))
@@ -552,7 +559,8 @@ module _ {X B : Type 0} (stored : B → Stored) (keeps : Start → Kept X → Ty
       (λ later. later-keeps rel later moves t kept) rel.group
 
   -- either release keeps the rule and tells what it brings
-  release-steps : (start : Origin) (tells : Bool) (rel : Releasing stored keeps tied start tells may_release) → 0 < length rel.v.used
+  release-steps : (start : Origin) (tells : Bool) (rel : Releasing stored keeps tied start tells may_release)
+      → 0 < length rel.v.used
       → Ruled stored keeps tied start tells (new rel) × Brings (did_store (places.State rel.p) (word rel))
       (own rel ∷ []) (entries_of rel.v rel.said) rel.v (inner rel) (left rel)
   release-steps start tells rel number =
@@ -565,7 +573,8 @@ module _ {X B : Type 0} (stored : B → Stored) (keeps : Start → Kept X → Ty
   module _ (start : Origin) (tells : Bool) (s : Table (Option B) (View X)) (r : Ruled stored keeps tied start tells s)
       (id : ℕ) (v : View X) (there : get_elem? s.views id ≡ some v) (live : v.live ≡ true) (number : 0 < length v.used)
       (p version : ℕ) (low : p < start.pages) (below : version < MAX_VERSION) where
-    -- where the word becomes x, the table meets the rule with some view of the pass of which this is told, and what the layer above keeps
+    -- where the word becomes x, the table meets the rule with some view of the pass of which this is told, and what
+    -- the layer above keeps
     abbrev LeavesAt : ℕ → (View X → View X → Type 0) → Type 0
     LeavesAt x told = (w : View X) × Ruled stored keeps tied start tells
         (became stored keeps tied start tells s (slice_set s.words p x) id w) × ReleaseTells keeps tells p told v w
@@ -604,7 +613,8 @@ module _ {X B : Type 0} (stored : B → Stored) (keeps : Start → Kept X → Ty
         )
 
     -- a page is released to a share of the pass
-    pub downgrade-plays : MayDowngrade may_release v p version → LeavesAt (word_of 1 (version + 1)) (DowngradeTold p version)
+    pub downgrade-plays : MayDowngrade may_release v p version
+        → LeavesAt (word_of 1 (version + 1)) (DowngradeTold p version)
     downgrade-plays g =
         let rel : Releasing stored keeps tied start tells may_release = downgrading s r id v there live p version low below g in
         let k = release-steps start tells rel number in (
@@ -623,7 +633,8 @@ module _ {X B : Type 0} (stored : B → Stored) (keeps : Start → Kept X → Ty
   -- so it is on every table
   pub release-allows : (shape : TableShape) (tells : Bool) (slots id : ℕ) (v : View X) (i : ℕ) (p version : ℕ)
       (rest : List ℕ) (said : Option X) → v.live ≡ true → 0 < length v.used → p < shape.pages → version < MAX_VERSION
-      → MayGiveUp may_release p version rest said v → IsPlacedAt shape (places.State p) i → IsUngrouped shape.began.origin.groups p
+      → MayGiveUp may_release p version rest said v → IsPlacedAt shape (places.State p) i
+      → IsUngrouped shape.began.origin.groups p
       → AllowsStep (Stands stored keeps tied shape tells) slots id v i (λ _. version + 1)
       (told_of shape tells (λ _. ReleaseTells keeps tells p (ReleaseTold p version rest said)))
   release-allows shape tells slots id v i p version rest said live number l below g is none =
@@ -636,7 +647,8 @@ module _ {X B : Type 0} (stored : B → Stored) (keeps : Start → Kept X → Ty
 
   pub release_evicted-allows : (shape : TableShape) (tells : Bool) (slots id : ℕ) (v : View X) (i : ℕ)
       (p version x : ℕ) → v.live ≡ true → 0 < length v.used → p < shape.pages → version < MAX_VERSION
-      → MayEvict v p version → x ≡ word_of EVICTED (version + 1) → IsPlacedAt shape (places.State p) i → IsUngrouped shape.began.origin.groups p
+      → MayEvict v p version → x ≡ word_of EVICTED (version + 1) → IsPlacedAt shape (places.State p) i
+      → IsUngrouped shape.began.origin.groups p
       → AllowsStep (Stands stored keeps tied shape tells) slots id v i (λ _. x)
       (told_of shape tells (λ _. ReleaseTells keeps tells p (EvictTold p version)))
   release_evicted-allows shape tells slots id v i p version x live number l below g spells is none =
@@ -649,7 +661,8 @@ module _ {X B : Type 0} (stored : B → Stored) (keeps : Start → Kept X → Ty
 
   pub downgrade-allows : (shape : TableShape) (tells : Bool) (slots id : ℕ) (v : View X) (i : ℕ) (p version x : ℕ)
       → v.live ≡ true → 0 < length v.used → p < shape.pages → version < MAX_VERSION
-      → MayDowngrade may_release v p version → x ≡ word_of 1 (version + 1) → IsPlacedAt shape (places.State p) i → IsUngrouped shape.began.origin.groups p
+      → MayDowngrade may_release v p version → x ≡ word_of 1 (version + 1) → IsPlacedAt shape (places.State p) i
+      → IsUngrouped shape.began.origin.groups p
       → AllowsStep (Stands stored keeps tied shape tells) slots id v i (λ _. x)
       (told_of shape tells (λ _. ReleaseTells keeps tells p (DowngradeTold p version)))
   downgrade-allows shape tells slots id v i p version x live number l below g spells is none =
@@ -712,9 +725,11 @@ module _ {X : Type 0} {p version : ℕ} {rest : List ℕ} {said : Option X} {v w
   pub release-last : last_of w p ≡ record { version = version + 1; words = draft_of v p }
   release-last = released-last t.brings refl
 
--- alone, with the words that the page had, of a page that was not claimed, which is not the next one, and without a word to say
+-- alone, with the words that the page had, of a page that was not claimed, which is not the next one, and without a
+-- word to say
 module _ {X : Type 0} {p version : ℕ} {v w : View X} (t : ReleaseTold p version [] None v w) where
-  pub release-silent : has p v.pending ≡ false → has p v.owed ≡ false → v.next ≢ Some p → draft_of v p ≡ (last_of v p).words → LeavesOwn v w
+  pub release-silent : has p v.pending ≡ false → has p v.owed ≡ false → v.next ≢ Some p
+      → draft_of v p ≡ (last_of v p).words → LeavesOwn v w
   release-silent free paid next same =
       own-from t.brings (append-none v.mine)
       (cond-false (has p v.pending) (without p v.pending) v.pending free, without-none p v.owed paid, next-stays p v.next next) (

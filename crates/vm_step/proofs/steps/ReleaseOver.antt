@@ -1,5 +1,6 @@
--- A group is released, as Unlocked or as Evicted: each of its pages in turn, in one step. As Unlocked its first page makes the drafts of the
--- others logical, and these are released as later members: so the layer above sees one change of all of them.
+-- A group is released, as Unlocked or as Evicted: each of its pages in turn, in one step. As Unlocked its first page
+-- makes the drafts of the others logical, and these are released as later members: so the layer above sees one change
+-- of all of them.
 use Rattle.std.proofs.lemmas.Bool.{cases_eq, cases_Bool, cond-false, cond-true, eq-eqb, false≢true, ne_eqb}
 use Rattle.vm_event.specs.Groups.{head_in}
 use Rattle.vm_owner.proofs.NumberLemmas.{has-both, has-without_other}
@@ -8,10 +9,14 @@ use Rattle.vm_rule.proofs.GroupWords.{group-first}
 use Rattle.vm_rule.specs.Spread.{group_of}
 use Rattle.vm_rule.specs.declared.view.Out.{Out}
 use Rattle.vm_step.proofs.{Fit.fit, Over.has-head, Over.has-tail, Over.over-allows, Over.over-each}
-use Rattle.vm_step.proofs.Prelude.{[], AllowsStep, ap, became, Bool, Change, Each, Entry, EVICTED, EvictTold, false, get_elem?, has, Held, held_at}
-use Rattle.vm_step.proofs.Prelude.{if◌then◌else◌, inl, inr, IsFit, IsFirst, IsSome, Kept, length, List, MAX_VERSION, MayEvict, MayGiveUp}
-use Rattle.vm_step.proofs.Prelude.{None, Option, Origin, refl, ReleaseTells, ReleaseTold, Ruled, Seat, seat_of, slice_index, slice_set, Some, some, Stands, Start, Stored}
-use Rattle.vm_step.proofs.Prelude.{subst, sym, Table, TableShape, told_of, true, Version, View, without, word_of, ℕ, ⊎_elim, ◌++◌, ◌+◌, ◌<◌}
+use Rattle.vm_step.proofs.Prelude.{[], AllowsStep, ap, became, Bool, Change, Each, Entry}
+use Rattle.vm_step.proofs.Prelude.{EVICTED, EvictTold, false, get_elem?, has, Held, held_at}
+use Rattle.vm_step.proofs.Prelude.{if◌then◌else◌, inl, inr, IsFit, IsFirst, IsSome}
+use Rattle.vm_step.proofs.Prelude.{Kept, length, List, MAX_VERSION, MayEvict, MayGiveUp}
+use Rattle.vm_step.proofs.Prelude.{None, Option, Origin, refl, ReleaseTells, ReleaseTold, Ruled, Seat}
+use Rattle.vm_step.proofs.Prelude.{seat_of, slice_index, slice_set, Some, some, Stands, Start, Stored}
+use Rattle.vm_step.proofs.Prelude.{subst, sym, Table, TableShape, told_of, true, Version, View}
+use Rattle.vm_step.proofs.Prelude.{without, word_of, ℕ, ⊎_elim, ◌++◌, ◌+◌, ◌<◌}
 use Rattle.vm_step.proofs.Prelude.{◌||◌, ◌∙◌, ◌∷◌, ◌≡◌, ◌≢◌, eqb, last_of}
 use Rattle.vm_step.proofs.steps.Release.{evict-others, release-others, release-plays, release_evicted-plays}
 use Rattle.vm_step.specs.Over.{InTurn}
@@ -20,7 +25,8 @@ use Rattle.vm_step.specs.steps.Release.{IsReleasable, MayGiveUpAll, ReleaseTells
 -- ---- what the release of one page leaves of another
 
 module _ {X : Type 0} {version : ℕ} {v w : View X} where
-  releasable-stays : (q p : ℕ) (rest : List ℕ) (said : Option X) → ReleaseTold q version rest said v w → p ≢ q → IsReleasable version v p
+  releasable-stays : (q p : ℕ) (rest : List ℕ) (said : Option X) → ReleaseTold q version rest said v w → p ≢ q
+      → IsReleasable version v p
       → IsReleasable version w p
   releasable-stays q p rest said t ne k =
       let o = release-others t (λ x. x ≡ q) refl in
@@ -47,7 +53,8 @@ module _ {X : Type 0} {version : ℕ} {v w : View X} where
       }
 
   -- the first release makes the others pending
-  pending-made : (h : ℕ) (rest : List ℕ) (said : Option X) → ReleaseTold h version rest said v w → has h v.pending ≡ false → (p : ℕ)
+  pending-made : (h : ℕ) (rest : List ℕ) (said : Option X) → ReleaseTold h version rest said v w
+      → has h v.pending ≡ false → (p : ℕ)
       → has p rest ≡ true → has p w.pending ≡ true
   pending-made h rest said t free p is =
       ap (λ (y : View X). has p y.pending) t.brings.view
@@ -92,7 +99,8 @@ module _ {X B : Type 0} (stored : B → Stored) (keeps : Start → Kept X → Ty
     other : (q p : ℕ) (qs : List ℕ) → has q qs ≡ false → has p qs ≡ true → p ≢ q
     other q p qs none is e = false≢true (sym none ∙ subst (λ j. has j qs ≡ true) e is)
 
-    first-step : (qs : List ℕ) → has h qs ≡ false → h < start.pages → ReadyToLeave h version rest said (h ∷ qs) u → LeavesAt h qs
+    first-step : (qs : List ℕ) → has h qs ≡ false → h < start.pages → ReadyToLeave h version rest said (h ∷ qs) u
+        → LeavesAt h qs
     first-step qs none low k =
         let first : IsFirst may_release h rest said u = k.first (has-head h qs) in
         let own : IsReleasable version u h = k.each h (has-head h qs) in
@@ -124,7 +132,8 @@ module _ {X B : Type 0} (stored : B → Stored) (keeps : Start → Kept X → Ty
           },
         )
 
-    later-step : (q : ℕ) → q ≢ h → (qs : List ℕ) → has q qs ≡ false → q < start.pages → ReadyToLeave h version rest said (q ∷ qs) u
+    later-step : (q : ℕ) → q ≢ h → (qs : List ℕ) → has q qs ≡ false → q < start.pages
+        → ReadyToLeave h version rest said (q ∷ qs) u
         → LeavesAt q qs
     later-step q ne qs none low k =
         let gone : has h (q ∷ qs) ≡ false = ⊎_elim
@@ -161,7 +170,8 @@ module _ {X B : Type 0} (stored : B → Stored) (keeps : Start → Kept X → Ty
           },
         )
 
-    either-step : (q : ℕ) (qs : List ℕ) → has q qs ≡ false → q < start.pages → ReadyToLeave h version rest said (q ∷ qs) u → LeavesAt q qs
+    either-step : (q : ℕ) (qs : List ℕ) → has q qs ≡ false → q < start.pages
+        → ReadyToLeave h version rest said (q ∷ qs) u → LeavesAt q qs
     either-step q qs none low k =
         ⊎_elim
         (λ here. subst (λ j. has j qs ≡ false → j < start.pages → ReadyToLeave h version rest said (j ∷ qs) u → LeavesAt j qs) (sym here)
@@ -171,7 +181,8 @@ module _ {X B : Type 0} (stored : B → Stored) (keeps : Start → Kept X → Ty
 
   pub release-over : (shape : TableShape) (tells : Bool) (slots id : ℕ) (v : View X) (h version : ℕ) (rest : List ℕ) (said : Option X)
       → v.live ≡ true → 0 < length v.used → h < shape.pages → version < MAX_VERSION
-      → MayGiveUpAll may_release (group_of shape.began.origin.groups h) h version rest said v → head_in shape.began.origin.groups h ≡ h
+      → MayGiveUpAll may_release (group_of shape.began.origin.groups h) h version rest said v
+      → head_in shape.began.origin.groups h ≡ h
       → AllowsStep (Stands stored keeps tied shape tells) slots id v h (λ _. version + 1)
       (told_of shape tells (InTurn (λ q _. ReleaseTellsOf keeps tells h version rest said q) (group_of shape.began.origin.groups h)))
   release-over shape tells slots id v h version rest said live number l below may own =
@@ -192,9 +203,11 @@ module _ {X B : Type 0} (stored : B → Stored) (keeps : Start → Kept X → Ty
       either-step start tells h version rest said below id s r u there q qs none low k)
 
   -- as Evicted each of them gives back the words that it had
-  pub release_evicted-over : (shape : TableShape) (tells : Bool) (slots id : ℕ) (v : View X) (h version : ℕ) → v.live ≡ true
+  pub release_evicted-over : (shape : TableShape) (tells : Bool) (slots id : ℕ) (v : View X) (h version : ℕ)
+      → v.live ≡ true
       → 0 < length v.used → h < shape.pages → version < MAX_VERSION
-      → ((q : ℕ) → has q (group_of shape.began.origin.groups h) ≡ true → MayEvict v q version) → head_in shape.began.origin.groups h ≡ h
+      → ((q : ℕ) → has q (group_of shape.began.origin.groups h) ≡ true → MayEvict v q version)
+      → head_in shape.began.origin.groups h ≡ h
       → AllowsStep (Stands stored keeps tied shape tells) slots id v h (λ _. word_of EVICTED (version + 1))
       (told_of shape tells (InTurn (λ q _. ReleaseTells keeps tells q (EvictTold q version)) (group_of shape.began.origin.groups h)))
   release_evicted-over shape tells slots id v h version live number l below may own =

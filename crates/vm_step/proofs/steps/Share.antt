@@ -2,7 +2,8 @@
 -- the table allows them, and that they are
 -- their events.
 --
--- What a share leaves that was taken, or given up: it speaks of one page, of whose shares the pass has one more, or one less.
+-- What a share leaves that was taken, or given up: it speaks of one page, of whose shares the pass has one more, or
+-- one less.
 use Rattle.std.proofs.Common.{eq-eqb}
 use Rattle.vm_event.specs.declared.event.PageAct.TheVariants as acts
 use Rattle.vm_event.specs.declared.event.Seen.TheVariants as sights
@@ -40,7 +41,8 @@ use Rattle.vm_step.proofs.Prelude.{UnlockSharedIsItsEvent, unshared, unshared_vi
 use Rattle.vm_step.proofs.Prelude.{upd-same, version-here, version_of, View, word-here, word_of, ℕ, ⊎_elim, ◌%◌, ◌+◌}
 use Rattle.vm_step.proofs.Prelude.{◌-◌, ◌<◌, ◌^◌, ◌||◌, ◌∙◌, ◌∷◌, ◌≡◌, ◌≢◌, ◌≤◌, ◌⊎◌}
 use Rattle.vm_step.proofs.steps.Event.{is-event}
-use Rattle.vm_step.proofs.steps.Leaving.{apart, knows-still, last-still, LeavesOthers, LeavesOwn, others-tied, own-from, rest-of}
+use Rattle.vm_step.proofs.steps.Leaving.{apart, knows-still, last-still, LeavesOthers}
+use Rattle.vm_step.proofs.steps.Leaving.{LeavesOwn, others-tied, own-from, rest-of}
 
 -- a word that may be shared is of a page that is neither locked nor evicted
 pub shareable : (expects : ℕ) → MayShare expects → (state_of expects ≢ LOCKED) × (state_of expects ≢ EVICTED)
@@ -114,7 +116,8 @@ module _ {X B : Type 0} (stored : B → Stored) (keeps : Start → Kept X → Ty
       }
 
 -- a share that is given up of one page leaves another as it has to be for its own
-unshare-stays : {X : Type 0} (q found p : ℕ) (u w : View X) → UnshareTold q found u w → p ≢ q → MayUnshare u p → MayUnshare w p
+unshare-stays : {X : Type 0} (q found p : ℕ) (u w : View X) → UnshareTold q found u w → p ≢ q → MayUnshare u p
+    → MayUnshare w p
 unshare-stays q found p u w t ne may =
     let same : seat_of (unshared_view q u) p ≡ seat_of u p = upd-other (put_at no_seat u.seats) q _ p ne in
     subst (λ (x : View _). MayUnshare x p) (sym t.brings.view) (record {
@@ -155,7 +158,8 @@ module _ {X B : Type 0} (stored : B → Stored) (keeps : Start → Kept X → Ty
   abbrev kept_before : Kept X
   kept_before = kept_of (world stored keeps tied start tells s r) r.history s.views
 
-  -- pages of which the pass has shares have the words that it knows, with one more page that nobody has locked exclusively
+  -- pages of which the pass has shares have the words that it knows, with one more page that nobody has locked
+  -- exclusively
   known-words : (p : ℕ) → p < start.pages → ((world stored keeps tied start tells s r).core.pages p).state ≢ LOCKED
       → (qs : List ℕ) → Each (HasShare v) qs
       → PagesHave kept_before.pages (pages_known v qs ++ (p, ((world stored keeps tied start tells s r).histories p).last.words) ∷ [])
@@ -478,7 +482,8 @@ module _ {X B : Type 0} (stored : B → Stored) (keeps : Start → Kept X → Ty
 
   -- so it is on every table
   pub unlock_shared-allows : (shape : TableShape) (slots id : ℕ) (v : View X) (i : ℕ) (p : ℕ) → v.live ≡ true
-      → 0 < length v.used → p < shape.pages → MayUnshare v p → IsPlacedAt shape (places.State p) i → IsUngrouped shape.began.origin.groups p
+      → 0 < length v.used → p < shape.pages → MayUnshare v p → IsPlacedAt shape (places.State p) i
+      → IsUngrouped shape.began.origin.groups p
       → AllowsStep (Stands stored keeps tied shape tells) slots id v i (λ n. (n + (2 ^ 64 - 2 ^ 56)) % 2 ^ 64)
       (told_of shape tells (UnshareTold p))
   unlock_shared-allows shape slots id v i p live number l may is none =

@@ -1,10 +1,12 @@
 -- A load of a page's translation word: an open read without a frame gets the one that it names; that the table allows
 -- it, and that it is its event.
 --
--- What a load of a translation word leaves: it speaks of the open read of one page. Under a lock of the page nothing changes.
+-- What a load of a translation word leaves: it speaks of the open read of one page. Under a lock of the page nothing
+-- changes.
 use Rattle.vm_event.specs.declared.event.Seen.TheVariants as sights
 use Rattle.vm_rule.specs.declared.view.WordPlace.TheVariants as places
-use Rattle.vm_step.proofs.{Asides.alone-silent, Asides.OnlyReads, Fit.fit, Here.frame-inside, Quiet.quiet-shows, Standing.allows-load}
+use Rattle.vm_step.proofs.{Asides.alone-silent, Asides.OnlyReads, Fit.fit}
+use Rattle.vm_step.proofs.{Here.frame-inside, Quiet.quiet-shows, Standing.allows-load}
 use Rattle.vm_step.proofs.{steps.Content.frame-known, Written.word-loaded}
 use Rattle.vm_step.proofs.Prelude.{holdings, [], AllowsStep, ap, at-bound, Bool, core_shown, Did, did_load, draft-is}
 use Rattle.vm_step.proofs.Prelude.{draft_of, Each, each-upd2, frame_of, frame_read, framed, HoldsPage, IsLocking}
@@ -16,7 +18,8 @@ use Rattle.vm_step.proofs.Prelude.{TloadIsItsEvent, told_of, trans_word, transla
 use Rattle.vm_step.proofs.Prelude.{TranslationHolds, TranslationTold, true, upd, upd-keeps, upd-other, upd-same, View}
 use Rattle.vm_step.proofs.Prelude.{Works, ℕ, ◌+◌, ◌<◌, ◌∙◌, ◌∷◌, ◌≡◌, ◌≤◌}
 use Rattle.vm_step.proofs.steps.Event.{is-event}
-use Rattle.vm_step.proofs.steps.Leaving.{apart, knows-still, LeavesOthers, LeavesOwn, only-of, others-tied, own-from, works-of}
+use Rattle.vm_step.proofs.steps.Leaving.{apart, knows-still, LeavesOthers, LeavesOwn}
+use Rattle.vm_step.proofs.steps.Leaving.{only-of, others-tied, own-from, works-of}
 
 -- the translation that an open read got holds: the word is the page's now
 translation-now : (pages : ℕ → Page) (p found : ℕ) (o : Option Open)
@@ -101,7 +104,8 @@ module _ {X B : Type 0} (stored : B → Stored) (keeps : Start → Kept X → Ty
       (ap sights.Word (ap trans_word (translation-here stored start s p l) ∙ sym spelled ∙ sym finds.1))
 
 module _ {X : Type 0} {p found : ℕ} {v w : View X} (t : TranslationTold p found v w) where
-  pub tload-others : (touched : ℕ → Type 0) → touched p → LeavesOthers touched (did_load (places.Translation p) found ∷ []) [] v w
+  pub tload-others : (touched : ℕ → Type 0) → touched p
+      → LeavesOthers touched (did_load (places.Translation p) found ∷ []) [] v w
   tload-others touched at =
       others-tied t.brings ([], refl) tt (λ q ne. upd-other (put_at no_seat v.seats) p _ q (apart touched at q ne))
       (λ q ne. refl) (λ q ne. refl) (λ q ne. refl)

@@ -33,7 +33,8 @@ pub lost-brings : {X : Type 0} {did : Did} {expects found : ℕ} {v w : View X} 
     → Brings did [] [] v (if found == expects then inner else v) w → Brings did [] [] v v w
 lost-brings {did = did} {expects = expects} {found = found} {v = v} {w = w} inner ne b = lost-view did expects found v inner w ne b
 
--- so such a step changes no more than open reads: the hand that is moved, a mark that is tried, an exchange of any kind that was lost
+-- so such a step changes no more than open reads: the hand that is moved, a mark that is tried, an exchange of any
+-- kind that was lost
 module _ {X : Type 0} (touched : ℕ → Type 0) where
   pub still-only : (did : Did) (v w : View X) → Brings did [] [] v v w → OnlyReads touched (did ∷ []) v w
   still-only did v w b = only-of (others-still b) (still-own b) (still-holds b) (still-knows b) (alone-silent did None [] v v w b refl)

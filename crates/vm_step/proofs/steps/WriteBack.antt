@@ -2,18 +2,23 @@
 -- table allows them, and that they are
 -- their events.
 --
--- What a lock for write-back leaves that was taken, and one that became exclusive: both speak of one page, whose open read is closed.
+-- What a lock for write-back leaves that was taken, and one that became exclusive: both speak of one page, whose open
+-- read is closed.
 use Rattle.vm_event.specs.Groups.{head_in, IsUngrouped}
 use Rattle.vm_rule.specs.Spread.{group_of}
 use Rattle.vm_step.specs.Over.{InTurn}
 use Rattle.vm_step.proofs.Over.{either-leaves, over-each, seat-stays}
 use Rattle.vm_rule.specs.declared.view.Origin.{Origin}
 use Rattle.vm_rule.specs.declared.view.WordPlace.TheVariants as places
-use Rattle.vm_step.proofs.{Evidenced.taken-view, Fit.either-has, Fit.either-lives, Fit.fit, Here.last, Here.world, Standing.allows}
-use Rattle.vm_step.proofs.Exchange.{exchange-event, free-debt, free-member, free-unheld, held-at, known-held, lockw-exchange, opened}
-use Rattle.vm_step.proofs.Exchange.{known-owner, owner-shows, page_held, sharer-shows, tried, tried-validates, upgrade-exchange}
+use Rattle.vm_step.proofs.{Evidenced.taken-view, Fit.either-has, Fit.either-lives, Fit.fit}
+use Rattle.vm_step.proofs.{Here.last, Here.world, Standing.allows}
+use Rattle.vm_step.proofs.Exchange.{exchange-event, free-debt, free-member, free-unheld}
+use Rattle.vm_step.proofs.Exchange.{held-at, known-held, lockw-exchange, opened}
+use Rattle.vm_step.proofs.Exchange.{known-owner, owner-shows, page_held, sharer-shows}
+use Rattle.vm_step.proofs.Exchange.{tried, tried-validates, upgrade-exchange}
 use Rattle.vm_step.proofs.Prelude.{[], AllowsStep, ap, arith, Bool, Brings, Did, did_exchange, draft_of, either, eqb}
-use Rattle.vm_step.proofs.Prelude.{became, false, get_elem?, has, Held, Option, Ruled, slice_set, some, Table, held_at, if◌then◌else◌, IsHeldAt, IsLocking, IsPlacedAt, Kept}
+use Rattle.vm_step.proofs.Prelude.{became, false, get_elem?, has, Held, Option, Ruled, slice_set}
+use Rattle.vm_step.proofs.Prelude.{some, Table, held_at, if◌then◌else◌, IsHeldAt, IsLocking, IsPlacedAt, Kept}
 use Rattle.vm_step.proofs.Prelude.{last_of, LeavesRest, length, List, LOCKED, LockW, LockWriteBackIsItsEvent, MARKED}
 use Rattle.vm_step.proofs.Prelude.{may_call, MayRaiseLock, no_held, no_seat, None, or_right, Page, page_at, put}
 use Rattle.vm_step.proofs.Prelude.{put_at, refl, Seat, seat_of, TableShape, share_count, slice_index, Stands, Start}
@@ -43,7 +48,8 @@ module _ {X B : Type 0} (stored : B → Stored) (keeps : Start → Kept X → Ty
     -- taken or lost, either keeps the rule and tells what it is to tell
     module _ (start : Origin) (s : Table (Option B) (View X)) (r : Ruled stored keeps tied start tells s) (id : ℕ) (v : View X)
         (there : get_elem? s.views id ≡ some v) (live : v.live ≡ true) (number : 0 < length v.used) (p expects : ℕ) (l : p < start.pages) where
-      -- where the word becomes x, if it is the one expected, the table meets the rule with some view of the pass of which this is told
+      -- where the word becomes x, if it is the one expected, the table meets the rule with some view of the pass of
+      -- which this is told
       abbrev LocksTo : ℕ → (View X → Type 0) → Type 0
       LocksTo x told = (w : View X) × Ruled stored keeps tied start tells
           (became stored keeps tied start tells s
@@ -134,7 +140,8 @@ module _ {X B : Type 0} (stored : B → Stored) (keeps : Start → Kept X → Ty
           )
 
     -- so it is on every table
-    pub lock_write_back-allows : (shape : TableShape) (slots id : ℕ) (v : View X) (i : ℕ) (p expects x : ℕ) → v.live ≡ true
+    pub lock_write_back-allows : (shape : TableShape) (slots id : ℕ) (v : View X) (i : ℕ) (p expects x : ℕ)
+        → v.live ≡ true
         → 0 < length v.used → p < shape.pages → state_of expects ≡ MARKED → x ≡ (word_of 1 (version_of expects))
         → IsPlacedAt shape (places.State p) i → IsUngrouped shape.began.origin.groups p
         → AllowsStep (Stands stored keeps tied shape tells) slots id v i (λ n. either (eqb n expects) x n)

@@ -2,7 +2,8 @@
 -- it: of the step, the seat before,
 -- the number found, the seat after.
 use Rattle.std.specs.Prelude.{[], ◌∷◌, ◌≡◌, Bool, false, None, Option, Some, true, ℕ}
-use Rattle.vm_rule.specs.Prelude.{DeviceDid, may_call, Me, out_at, ReturnTold, seat_of, ShiftTold, SlotTold, Step, Stored}
+use Rattle.vm_rule.specs.Prelude.{DeviceDid, may_call, Me, out_at, ReturnTold}
+use Rattle.vm_rule.specs.Prelude.{seat_of, ShiftTold, SlotTold, Step, Stored}
 use Rattle.vm_rule.specs.{declared.view.TableShape.TableShape, declared.view.View.View}
 use Rattle.vm_step.specs.Operations.{IsOf}
 
@@ -14,11 +15,13 @@ module _ {X : Type 0} where
 
   module _ {B : Type 0} (shape : TableShape) (tells : Bool) where
     -- the slot of page p was taken, with the block in it
-    abbrev pub slot_play : (B → Stored) → ℕ → Step (Option B) → Me (Option B) (View X) → ℕ → Me (Option B) (View X) → Type 0
+    abbrev pub slot_play : (B → Stored) → ℕ → Step (Option B) → Me (Option B) (View X) → ℕ → Me (Option B) (View X)
+        → Type 0
     slot_play stored p st m found m' = IsOf shape tells m.0 × ((b : B) × SlotTold p (stored b) found m.0 m'.0 × (m'.1 ≡ (p, Some b) ∷ m.1))
 
     -- the slot went home with the block that came back
-    abbrev pub return_play : (B → Stored) → ℕ → Step (Option B) → Me (Option B) (View X) → ℕ → Me (Option B) (View X) → Type 0
+    abbrev pub return_play : (B → Stored) → ℕ → Step (Option B) → Me (Option B) (View X) → ℕ → Me (Option B) (View X)
+        → Type 0
     return_play stored p st m found m' = (b : B) (old : Stored) → m.1 ≡ (p, Some b) ∷ [] → m.0.out ≡ Some (out_at p true old) →
         DeviceDid m.0 p old (stored b) → (stored b).bound ≡ old.bound → IsOf shape tells m.0 × ReturnTold p (stored b)
         found m.0 m'.0 × (m'.1 ≡ [])

@@ -3,9 +3,11 @@
 use Rattle.std.specs.Prelude.{◌<◌, ◌≡◌, Bool, List, Option, slice_set, Some, true, ℕ}
 use Rattle.vm_event.specs.{declared.event.Event.TheVariants.Load, declared.event.Event.TheVariants.Store}
 use Rattle.vm_event.specs.declared.event.Seen.TheVariants as sights
-use Rattle.vm_rule.specs.Prelude.{Drafts, FillTold, frame_read_by, has, index_of, Kept, LoadTold, Start, Stored, StoreTold, Table}
+use Rattle.vm_rule.specs.Prelude.{Drafts, FillTold, frame_read_by, has, index_of, Kept}
+use Rattle.vm_rule.specs.Prelude.{LoadTold, Start, Stored, StoreTold, Table}
 use Rattle.vm_rule.specs.declared.view.WordPlace.TheVariants as places
-use Rattle.vm_step.specs.{Events.FindsAt, Prelude.IsEvent, Prelude.IsPassOf, Prelude.Origin, Prelude.table_after, Prelude.View}
+use Rattle.vm_step.specs.{Events.FindsAt, Prelude.IsEvent, Prelude.IsPassOf}
+use Rattle.vm_step.specs.{Prelude.Origin, Prelude.table_after, Prelude.View}
 
 module _ {X B : Type 0} (stored : B → Stored) (keeps : Start → Kept X → Type 0)
     (tied : Start → ℕ → List ℕ → ℕ → List ℕ → Type 0) (tells : Bool) where
@@ -13,10 +15,12 @@ module _ {X B : Type 0} (stored : B → Stored) (keeps : Start → Kept X → Ty
   abbrev pub LoadIsItsEvent : Type 0
   LoadIsItsEvent =
       (start : Origin) (s : Table (Option B) (View X)) (id p f i found : ℕ) (v w : View X) → IsPassOf stored start keeps tied tells s id v
-      → FindsAt start s (places.Content f i) found → p < start.pages → frame_read_by v p ≡ Some f → LoadTold p f i found v w
+      → FindsAt start s (places.Content f i) found → p < start.pages → frame_read_by v p ≡ Some f
+      → LoadTold p f i found v w
       → IsEvent stored start s (table_after s s.words id w) (Load id p i) (sights.Word found)
 
-  -- a store into the frame of a page that the pass holds exclusively sees nothing: that word of the frame is the one stored
+  -- a store into the frame of a page that the pass holds exclusively sees nothing: that word of the frame is the one
+  -- stored
   abbrev pub StoreIsItsEvent : Type 0
   StoreIsItsEvent =
       (start : Origin) (s : Table (Option B) (View X)) (id p f i x : ℕ) (v w : View X)

@@ -4,7 +4,8 @@ use Rattle.vm_event.specs.{declared.event.Event.TheVariants.Hand, Prelude.hand_m
 use Rattle.vm_event.specs.declared.event.Seen.TheVariants as sights
 use Rattle.vm_rule.specs.Prelude.{HandTold, index_of, Kept, Start, Stored, Table}
 use Rattle.vm_rule.specs.declared.view.WordPlace.TheVariants as places
-use Rattle.vm_step.specs.{Events.FindsAt, Prelude.IsEvent, Prelude.IsPassOf, Prelude.Origin, Prelude.table_after, Prelude.View}
+use Rattle.vm_step.specs.{Events.FindsAt, Prelude.IsEvent, Prelude.IsPassOf}
+use Rattle.vm_step.specs.{Prelude.Origin, Prelude.table_after, Prelude.View}
 
 module _ {X B : Type 0} (stored : B → Stored) (keeps : Start → Kept X → Type 0)
     (tied : Start → ℕ → List ℕ → ℕ → List ℕ → Type 0) (tells : Bool) where

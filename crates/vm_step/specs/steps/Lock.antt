@@ -1,6 +1,8 @@
--- An exclusive lock: its event. What it tells, `LockTold`, stands in vm_rule/specs/Locks, with the words that it may be taken at.
+-- An exclusive lock: its event. What it tells, `LockTold`, stands in vm_rule/specs/Locks, with the words that it may
+-- be taken at.
 use Rattle.std.specs.Prelude.{Bool, List, Option, ℕ}
-use Rattle.vm_event.specs.{declared.event.Event.TheVariants.LockX, Prelude.LOCKED, Prelude.MayLock, Prelude.version_of, Prelude.word_of}
+use Rattle.vm_event.specs.{declared.event.Event.TheVariants.LockX, Prelude.LOCKED, Prelude.MayLock}
+use Rattle.vm_event.specs.{Prelude.version_of, Prelude.word_of}
 use Rattle.vm_rule.specs.Prelude.{Kept, LockTold, Start, Stored, Table}
 use Rattle.vm_rule.specs.declared.view.WordPlace.TheVariants as places
 use Rattle.vm_step.specs.Prelude.{exchange_sees, exchanged, IsEvent, IsPassOf, Origin, table_after, View}

@@ -1,12 +1,16 @@
--- A look at a page's state word: what may be said at it, what it tells, and its event. `LookTold` stands in vm_rule/specs/Looks.
+-- A look at a page's state word: what may be said at it, what it tells, and its event. `LookTold` stands in
+-- vm_rule/specs/Looks.
 use Rattle.std.specs.Prelude.{◌==◌, ◌≡◌, ◌⊎◌, Bool, if◌then◌else◌, length, List, map, None, Option, Some, true, ℕ}
-use Rattle.vm_event.specs.{declared.event.Event.TheVariants.Look, declared.event.ReadIs.TheVariants.Same, Prelude.LoadsAre}
+use Rattle.vm_event.specs.{declared.event.Event.TheVariants.Look, declared.event.ReadIs.TheVariants.Same}
+use Rattle.vm_event.specs.{Prelude.LoadsAre}
 use Rattle.vm_event.specs.declared.event.Seen.TheVariants as sights
 use Rattle.vm_owner.specs.Numbers.{has}
 use Rattle.vm_rule.specs.{declared.view.Origin.Origin, declared.view.View.View}
-use Rattle.vm_rule.specs.Prelude.{began_of, Each, entries_of, Entry, Kept, left_at, loads_at, LookTold, Open, seat_of, Start, Stored, Table}
+use Rattle.vm_rule.specs.Prelude.{began_of, Each, entries_of, Entry, Kept, left_at, loads_at}
+use Rattle.vm_rule.specs.Prelude.{LookTold, Open, seat_of, Start, Stored, Table}
 use Rattle.vm_rule.specs.declared.view.WordPlace.TheVariants as places
-use Rattle.vm_step.specs.{Alone.KnowsUnheld, Events.FindsAt, Events.IsEvent, Events.IsPassOf, Events.table_after, Keeping.IsKeptNow}
+use Rattle.vm_step.specs.{Alone.KnowsUnheld, Events.FindsAt, Events.IsEvent}
+use Rattle.vm_step.specs.{Events.IsPassOf, Events.table_after, Keeping.IsKeptNow}
 
 module _ {X : Type 0} where
   -- nothing is said; or every page that has the loaded words, and what the page and the pages that were validated say

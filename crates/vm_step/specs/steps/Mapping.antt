@@ -4,14 +4,16 @@ use Rattle.std.specs.Prelude.{◌<◌, ◌^◌, Bool, List, None, Option, slice_
 use Rattle.vm_event.specs.Prelude.{trans_word}
 use Rattle.vm_event.specs.declared.event.Event.TheVariants.{Clean, Clear, Dirty, Install}
 use Rattle.vm_event.specs.declared.event.Seen.TheVariants as sights
-use Rattle.vm_rule.specs.Prelude.{clean_in, CleanTold, ClearTold, dirty_in, DirtyTold, index_of, InstallTold, IsWritten, Kept, MayPutInto}
+use Rattle.vm_rule.specs.Prelude.{clean_in, CleanTold, ClearTold, dirty_in, DirtyTold}
+use Rattle.vm_rule.specs.Prelude.{index_of, InstallTold, IsWritten, Kept, MayPutInto}
 use Rattle.vm_rule.specs.Prelude.{StandsClean, StandsIn, Start, Stored, Table}
 use Rattle.vm_rule.specs.declared.view.WordPlace.TheVariants as places
 use Rattle.vm_step.specs.Prelude.{IsEvent, IsPassOf, Origin, table_after, View}
 
 module _ {X B : Type 0} (stored : B → Stored) (keeps : Start → Kept X → Type 0)
     (tied : Start → ℕ → List ℕ → ℕ → List ℕ → Type 0) (tells : Bool) where
-  -- a page that is put into a frame of the pass: its translation word says that it stands there clean, and nothing is seen
+  -- a page that is put into a frame of the pass: its translation word says that it stands there clean, and nothing is
+  -- seen
   abbrev pub InstallIsItsEvent : Type 0
   InstallIsItsEvent =
       (start : Origin) (s : Table (Option B) (View X)) (id p f : ℕ) (v w : View X)

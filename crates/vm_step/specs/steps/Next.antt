@@ -9,7 +9,8 @@ use Rattle.vm_rule.specs.declared.view.WordPlace.TheVariants as places
 use Rattle.vm_step.specs.Events.{exchange_sees, exchanged, FindsAt, IsEvent, IsPassOf, table_after}
 
 module _ {X : Type 0} where
-  -- the pass holds the pages from x on, n of them, exclusively, all resident; none is a member of a group still to be released
+  -- the pass holds the pages from x on, n of them, exclusively, all resident; none is a member of a group still to be
+  -- released
   pub record PassMayClaim (v : View X) (x n : ℕ) : Type 0 where
     pub few : (n ≡ 1) ⊎ (n ≡ 2)
     pub inside : x + n ≤ v.start.pages

@@ -4,9 +4,11 @@
 use Rattle.std.specs.Prelude.{[], ◌+◌, ◌≤◌, Bool, List, Option, slice_set, ℕ}
 use Rattle.vm_event.specs.declared.event.Event.TheVariants.{Disown, OLoad, Own}
 use Rattle.vm_event.specs.declared.event.Seen.TheVariants as sights
-use Rattle.vm_rule.specs.Prelude.{Brings, did_load, did_store, Event, held_at, index_of, Kept, put, StandsIn, Start, Stored, Table}
+use Rattle.vm_rule.specs.Prelude.{Brings, did_load, did_store, Event, held_at, index_of}
+use Rattle.vm_rule.specs.Prelude.{Kept, put, StandsIn, Start, Stored, Table}
 use Rattle.vm_rule.specs.declared.view.WordPlace.TheVariants as places
-use Rattle.vm_step.specs.{Events.FindsAt, Prelude.IsEvent, Prelude.IsPassOf, Prelude.Origin, Prelude.table_after, Prelude.View}
+use Rattle.vm_step.specs.{Events.FindsAt, Prelude.IsEvent, Prelude.IsPassOf}
+use Rattle.vm_step.specs.{Prelude.Origin, Prelude.table_after, Prelude.View}
 
 module _ {X : Type 0} where
   -- the pass knows this of the owner word of page p's frame

@@ -5,7 +5,8 @@ use Rattle.vm_event.specs.{declared.event.Event.TheVariants.NLoad, Prelude.get_e
 use Rattle.vm_event.specs.declared.event.Seen.TheVariants as sights
 use Rattle.vm_rule.specs.Prelude.{HoldsNoPage, Kept, OnlyKnows, Start, Stored, Table, TakesOver}
 use Rattle.vm_rule.specs.declared.view.WordPlace.TheVariants as places
-use Rattle.vm_step.specs.{Events.FindsAt, Prelude.IsEvent, Prelude.IsPassOf, Prelude.Origin, Prelude.table_after, Prelude.View}
+use Rattle.vm_step.specs.{Events.FindsAt, Prelude.IsEvent, Prelude.IsPassOf}
+use Rattle.vm_step.specs.{Prelude.Origin, Prelude.table_after, Prelude.View}
 use Rattle.vm_step.specs.NoEvents.{IsSplitOff, IsTakenIn, table_heard, table_joined, table_split}
 
 module _ {X B : Type 0} (stored : B → Stored) (keeps : Start → Kept X → Type 0)
@@ -27,7 +28,8 @@ module _ {X B : Type 0} (stored : B → Stored) (keeps : Start → Kept X → Ty
       → (w.told_releases ≡ []) × (w.told ≡ []) → HoldsNoPage w
       → IsTakenIn stored keeps tied start tells s is.rule id other (table_joined s id other v w)
 
-  -- a hearing changes no word and no block: the pass that goes has no frames and no page numbers, and its reads are closed
+  -- a hearing changes no word and no block: the pass that goes has no frames and no page numbers, and its reads are
+  -- closed
   abbrev pub HearingIsNoEvent : Type 0
   HearingIsNoEvent =
       (start : Origin) (s : Table (Option B) (View X)) (id other : ℕ) (v w : View X)
@@ -41,4 +43,5 @@ module _ {X B : Type 0} (stored : B → Stored) (keeps : Start → Kept X → Ty
   FollowIsItsEvent =
       (start : Origin) (s : Table (Option B) (View X)) (id : ℕ) (v w : View X) → (f : TakesOver v w)
       → IsPassOf stored start keeps tied tells s id v
-      → FindsAt start s places.Next f.found → IsEvent stored start s (table_after s s.words id w) (NLoad id) (sights.Word f.found)
+      → FindsAt start s places.Next f.found
+      → IsEvent stored start s (table_after s s.words id w) (NLoad id) (sights.Word f.found)

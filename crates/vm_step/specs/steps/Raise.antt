@@ -1,4 +1,5 @@
--- A fault word that is raised: when it may be, and its event. What it tells, `RaiseTold`, stands in vm_rule/specs/Faults.
+-- A fault word that is raised: when it may be, and its event. What it tells, `RaiseTold`, stands in
+-- vm_rule/specs/Faults.
 use Rattle.std.specs.Prelude.{◌<◌, ◌≡◌, Bool, List, Option, slice_set, true, ℕ}
 use Rattle.vm_event.specs.declared.event.Event.TheVariants.{Raise}
 use Rattle.vm_event.specs.declared.event.Seen.TheVariants as sights

@@ -1,7 +1,8 @@
 -- A release of a page that is locked exclusively, as Unlocked, as Evicted or to a share: when it may be released,
 -- what each tells, and their events.
 -- `ReleaseTold`, `EvictTold` and `DowngradeTold` stand in vm_rule/specs/Releases.
-use Rattle.std.specs.Prelude.{[], ◌+◌, ◌<◌, ◌==◌, ◌∷◌, ◌≡◌, ◌≢◌, ◌≤◌, ◌⊎◌, Bool, false, if◌then◌else◌, IsSome, length, List, None, Option}
+use Rattle.std.specs.Prelude.{[], ◌+◌, ◌<◌, ◌==◌, ◌∷◌, ◌≡◌, ◌≢◌, ◌≤◌, ◌⊎◌}
+use Rattle.std.specs.Prelude.{Bool, false, if◌then◌else◌, IsSome, length, List, None, Option}
 use Rattle.std.specs.Prelude.{slice_set, true, ℕ}
 use Rattle.vm_event.specs.Prelude.{EVICTED, MAX_VERSION, word_of}
 use Rattle.vm_event.specs.declared.event.Event.TheVariants.{Downgrade, Release, ReleaseE}
@@ -29,12 +30,13 @@ module _ {X : Type 0} where
     pub free : has q v.pending ≡ false
     pub claimed : v.start.tells ≡ true → IsClaimed v q
 
-  -- p is the first of a group with the others `rest`, or alone; the layer above lets the changes be made, or there are none
+  -- p is the first of a group with the others `rest`, or alone; the layer above lets the changes be made, or there
+  -- are none
   pub record IsFirst (may_release : Start → List ℕ → List Change → List (Entry X) → Type 0) (p : ℕ) (rest : List ℕ) (said : Option X)
       (v : View X) : Type 0 where
     pub members : Each (IsMember v) (p ∷ rest)
     pub apart : AreApart (p ∷ rest)
-    pub few : length rest ≤ 3
+    pub few : length rest ≤ 31
     pub owner : v.start.tells ≡ true → ((said ≡ None) × AreUnchanged v.owed (changes_of v (p ∷ rest))) ⊎
         may_release (began_of v.start) v.owed (changes_of v (p ∷ rest)) (entries_of v said)
 
@@ -64,8 +66,8 @@ module _ {X : Type 0} where
     pub home : IsNotOut v p
     pub at : version ≡ (last_of v p).version
 
-  -- the pages `qs` under one state word may be released together: h, the first of them, as the first of a group with the others `rest`, to which
-  -- the other pages belong
+  -- the pages `qs` under one state word may be released together: h, the first of them, as the first of a group with
+  -- the others `rest`, to which the other pages belong
   pub record MayGiveUpAll (may_release : Start → List ℕ → List Change → List (Entry X) → Type 0) (qs : List ℕ) (h version : ℕ)
       (rest : List ℕ) (said : Option X) (v : View X) : Type 0 where
     pub first : IsFirst may_release h rest said v
@@ -96,8 +98,10 @@ module _ {X : Type 0} where
   abbrev pub ReleaseTells : (Start → Kept X → Type 0) → Bool → ℕ → (View X → View X → Type 0) → View X → View X → Type 0
   ReleaseTells keeps tells p told v w = told v w × (tells ≡ true → IsKeptNow keeps p (Unit {0}) w)
 
-  -- what the release of page q tells as one of a group whose first page is h: with h alone the group's others become logical, and what is said an entry
-  abbrev pub ReleaseTellsOf : (Start → Kept X → Type 0) → Bool → ℕ → ℕ → List ℕ → Option X → ℕ → View X → View X → Type 0
+  -- what the release of page q tells as one of a group whose first page is h: with h alone the group's others become
+  -- logical, and what is said an entry
+  abbrev pub ReleaseTellsOf : (Start → Kept X → Type 0) → Bool → ℕ → ℕ → List ℕ → Option X → ℕ → View X → View X
+      → Type 0
   ReleaseTellsOf keeps tells h version rest said q =
       ReleaseTells keeps tells q (ReleaseTold q version (if q == h then rest else []) (if q == h then said else None))
 

@@ -1,11 +1,13 @@
 -- A share that is taken or given up: what may be said at it, when it may be given up, and their events. `ShareTold`
 -- and `UnshareTold` stand in
 -- vm_rule/specs/Locks.
-use Rattle.std.specs.Prelude.{[], ◌++◌, ◌-◌, ◌<◌, ◌^◌, ◌∷◌, ◌≡◌, ◌≤◌, ◌⊎◌, Bool, length, List, map, None, Option, slice_set, true, ℕ}
+use Rattle.std.specs.Prelude.{[], ◌++◌, ◌-◌, ◌<◌, ◌^◌, ◌∷◌, ◌≡◌, ◌≤◌, ◌⊎◌}
+use Rattle.std.specs.Prelude.{Bool, length, List, map, None, Option, slice_set, true, ℕ}
 use Rattle.vm_event.specs.Prelude.{MayShare, one_share_more, state_of, version_of, word_of}
 use Rattle.vm_event.specs.declared.event.Event.TheVariants.{LockS, UnlockS}
 use Rattle.vm_event.specs.declared.event.Seen.TheVariants as sights
-use Rattle.vm_rule.specs.Prelude.{began_of, Each, entries_of, Entry, Kept, last_of, LockValidates, seat_of, ShareTold, Start, Stored, Table}
+use Rattle.vm_rule.specs.Prelude.{began_of, Each, entries_of, Entry, Kept, last_of}
+use Rattle.vm_rule.specs.Prelude.{LockValidates, seat_of, ShareTold, Start, Stored, Table}
 use Rattle.vm_rule.specs.Prelude.{UnshareTold}
 use Rattle.vm_rule.specs.{declared.view.Origin.Origin, declared.view.View.View}
 use Rattle.vm_rule.specs.declared.view.WordPlace.TheVariants as places
