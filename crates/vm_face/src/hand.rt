@@ -17,7 +17,7 @@ use vm_handover::Giver;
 use vm_map::call::Reply;
 use vm_map::span::Span;
 use vm_map::window::Bound;
-use vm_owner::{Owner, Ungrouped};
+use vm_owner::Ungrouped;
 use vm_rule::words::Pass;
 use vm_serve::exmap::Interface;
 use vm_serve::kind::{OfSize, TreeOf, WordKeys};
@@ -29,7 +29,7 @@ use vm_tree_retry::within::{del_within, put_within, swap_within};
 
 /// One thread's own things: a pass, an interface, a share of the pool, and the way back.
 #[derive(Drop)]
-pub struct Hand<U: Owner, B: PageBlock<N> + Drop, const N: usize> {
+pub struct Hand<U: Ungrouped, B: PageBlock<N> + Drop, const N: usize> {
     pub pool: Arc<Pool<U, B, N>, Global>,
     pub pass: Pass<U>,
     pub iface: Interface,

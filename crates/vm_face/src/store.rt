@@ -32,7 +32,7 @@ pub const MOST_HANDS: usize = 64;
 
 /// How a store is held: its hands share the pool.
 #[derive(Drop)]
-pub struct TreeStore<U: Owner, B: PageBlock<N> + Drop, const N: usize> {
+pub struct TreeStore<U: Ungrouped, B: PageBlock<N> + Drop, const N: usize> {
     pub pool: Arc<Pool<U, B, N>, Global>,
     pub pass: Pass<U>,
     /// Where the hands that are out come back. There is room for as many as may be.

@@ -1,2 +1,4 @@
 pub mod Placed
 pub mod Each
+pub mod GroupEvents
+pub mod EventKinds

@@ -9,8 +9,11 @@ mod mark;
 mod release;
 mod share;
 
-pub use lock::{lock_group, lock_group_write_back, upgrade_group};
-pub use look::{look_group, look_group_saying};
-pub use mark::{mark_group, unmark_group};
+pub use lock::{
+    lock_group, lock_group_is_its_event, lock_group_write_back, lock_group_write_back_is_its_event,
+    upgrade_group, upgrade_group_is_its_event,
+};
+pub use look::{look_group, look_group_is_its_event, look_group_saying};
+pub use mark::{mark_group, mark_group_is_its_event, unmark_group, unmark_group_is_its_event};
 pub use release::{release_group, release_group_evicted};
-pub use share::{share_group, unshare_group};
+pub use share::{share_group, share_group_is_its_event, unshare_group, unshare_group_is_its_event};

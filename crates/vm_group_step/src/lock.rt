@@ -4,7 +4,8 @@ ghost use Rattle.vm_event.specs.Prelude.{MARKED, MayLock, state_of};
 ghost use Rattle.vm_rule.specs.Prelude.{LockTold, MayRaiseLock, UpgradeTold, WriteLockTold};
 ghost use Rattle.vm_step.specs.Prelude.{found_by, GoesOn, MayStep, view};
 ghost use Rattle.vm_step.specs.{declared.took.Took.TheVariants.Lost, Over.InTurn};
-ghost use Rattle.vm_group_step.specs.Heads.{EachUnder, IsHead, pages_under};
+ghost use Rattle.vm_group_step.specs.EventKinds.{LockGroupIsItsEvent, LockGroupWriteBackIsItsEvent, UpgradeGroupIsItsEvent};
+ghost use Rattle.vm_group_step.specs.{Heads.EachUnder, Heads.IsHead, Heads.pages_under};
 
 use std::marker::Brand;
 use vm_block::Block;
@@ -79,3 +80,18 @@ pub fn upgrade_group<U: Owner, B: Block>(
         expects,
     )
 }
+
+/// A lock of a group that is tried is one event of the machine with groups.
+pub fn lock_group_is_its_event<U: Owner, B: Block>()
+    ensures { LockGroupIsItsEvent B.stored U.keeps U.tied B.tells }
+{}
+
+/// So is a lock for write-back.
+pub fn lock_group_write_back_is_its_event<U: Owner, B: Block>()
+    ensures { LockGroupWriteBackIsItsEvent B.stored U.keeps U.tied B.tells }
+{}
+
+/// So is one that is to become exclusive.
+pub fn upgrade_group_is_its_event<U: Owner, B: Block>()
+    ensures { UpgradeGroupIsItsEvent B.stored U.keeps U.tied B.tells }
+{}

@@ -1,7 +1,8 @@
 // A group is looked at.
-ghost use Rattle.std.specs.Prelude.{None, option_map};
+ghost use Rattle.std.specs.Prelude.{None, Option, option_map, ℕ};
 ghost use Rattle.vm_step.specs.Prelude.{GoesOn, MayStep, view};
 ghost use Rattle.vm_step.specs.{Over.InTurn, steps.Look.LookTells, steps.Look.MayTellTogether, steps.Look.said_at};
+ghost use Rattle.vm_group_step.specs.EventKinds.{LookGroupIsItsEvent};
 ghost use Rattle.vm_group_step.specs.Heads.{IsHead, pages_under};
 
 use std::marker::Brand;
@@ -41,3 +42,8 @@ pub fn look_group_saying<U: Owner, B: Block>(
     let at = state_place(words, h);
     load::<U, B, (u32, Option<&U::Said>), Brand>(words, pass, at, (h, said))
 }
+
+/// A look at a group is one event of the machine with groups, whatever each page says.
+pub fn look_group_is_its_event<U: Owner, B: Block>()
+    ensures { (said : ℕ → Option U.Said) → LookGroupIsItsEvent B.stored U.keeps U.tied B.tells said }
+{}

@@ -4,6 +4,7 @@ ghost use Rattle.vm_event.specs.Prelude.{MARKED, state_of, UNLOCKED, version_of,
 ghost use Rattle.vm_rule.specs.Prelude.{MarkTold};
 ghost use Rattle.vm_step.specs.Prelude.{found_by, GoesOn, MayStep, view};
 ghost use Rattle.vm_step.specs.{declared.took.Took.TheVariants.Lost, Over.InTurn};
+ghost use Rattle.vm_group_step.specs.EventKinds.{MarkGroupIsItsEvent, UnmarkGroupIsItsEvent};
 ghost use Rattle.vm_group_step.specs.Heads.{IsHead, pages_under};
 
 use std::marker::Brand;
@@ -59,3 +60,13 @@ pub fn unmark_group<U: Owner, B: Block>(
         expects,
     )
 }
+
+/// A mark of a group that is tried is one event of the machine with groups.
+pub fn mark_group_is_its_event<U: Owner, B: Block>()
+    ensures { MarkGroupIsItsEvent B.stored U.keeps U.tied B.tells }
+{}
+
+/// So is one that is to be taken away.
+pub fn unmark_group_is_its_event<U: Owner, B: Block>()
+    ensures { UnmarkGroupIsItsEvent B.stored U.keeps U.tied B.tells }
+{}

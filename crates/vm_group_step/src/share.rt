@@ -4,6 +4,7 @@ ghost use Rattle.vm_event.specs.Prelude.{MayShare};
 ghost use Rattle.vm_rule.specs.Prelude.{UnshareTold};
 ghost use Rattle.vm_step.specs.Prelude.{found_by, GoesOn, MayStep, MayUnshare, view};
 ghost use Rattle.vm_step.specs.{declared.took.Took.TheVariants.Lost, Over.InTurn, steps.Share.LockSharedTells};
+ghost use Rattle.vm_group_step.specs.EventKinds.{ShareGroupIsItsEvent, UnshareGroupIsItsEvent};
 ghost use Rattle.vm_group_step.specs.Heads.{EachUnder, IsHead, pages_under};
 
 use std::marker::Brand;
@@ -47,3 +48,13 @@ pub fn unshare_group<U: Owner, B: Block>(words: &Words<U, B>, pass: &mut Pass<U>
     let at = state_place(words, h);
     fetch_sub::<U, B, u32, Brand>(words, pass, at, SHARE, h)
 }
+
+/// A share of a group that is tried is one event of the machine with groups.
+pub fn share_group_is_its_event<U: Owner, B: Block>()
+    ensures { ShareGroupIsItsEvent B.stored U.keeps U.tied B.tells }
+{}
+
+/// So is a share that is given up.
+pub fn unshare_group_is_its_event<U: Owner, B: Block>()
+    ensures { UnshareGroupIsItsEvent B.stored U.keeps U.tied B.tells }
+{}
