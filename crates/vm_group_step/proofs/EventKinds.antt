@@ -24,7 +24,7 @@ use Rattle.vm_step.proofs.steps.Share.{lock_shared-event, lock_shared-plays, unl
 use Rattle.vm_step.proofs.steps.WriteBack.{lock_write_back-event, lock_write_back-plays, upgrade-event, upgrade-plays}
 use Rattle.vm_step.specs.Prelude.{exchange_sees, exchanged, IsEvent, table_after}
 use Rattle.vm_step.specs.steps.{Release.MayEvict, Share.MayUnshare}
-use Rattle.vm_group_step.proofs.GroupEvents.{ActsAt, are-events, Moves, moves-either, moves-from, moves-put}
+use Rattle.vm_group_step.proofs.GroupEvents.{acts-at, all, are-events, Moves, moves-either, moves-from, moves-none, moves-put}
 use Rattle.vm_group_step.specs.Events.{AreEventsOver}
 use Rattle.vm_group_step.specs.EventKinds.{exchanged_to, LockGroupIsItsEvent, LockGroupWriteBackIsItsEvent}
 use Rattle.vm_group_step.specs.EventKinds.{LookGroupIsItsEvent, MarkGroupIsItsEvent, ReleaseGroupEvictedIsItsEvent}
@@ -51,7 +51,7 @@ module _ {X B : Type 0} (stored : B → Stored) (keeps : Start → Kept X → Ty
   -- a kind of step, from its law of a page alone
   kind : (start : Origin) (May : ℕ → View X → Type 0) (Told : ℕ → ℕ → View X → View X → Type 0) (left : ℕ → ℕ)
       (event : ℕ → ℕ → Event) (sees : View X → ℕ → ℕ → Seen) (act : PageAct) (f : ℕ → Seat → Seat) → IsActOver event act
-      → ((q n : ℕ) (u w : View X) → Told q n u w → Moves (f n) q u w)
+      → ((q n : ℕ) (u w : View X) → Told q n u w → Moves all (f n) q u w)
       → ((s : Table (Option B) (View X)) (id q : ℕ) (v : View X) → IsPassOf stored start keeps tied tells s id v
       → 0 < length v.used → q < start.pages → slice_index s.words q < 2 ^ 64 → May q v
       → (w : View X) × Told q (slice_index s.words q) v w)
@@ -65,7 +65,9 @@ module _ {X B : Type 0} (stored : B → Stored) (keeps : Start → Kept X → Ty
       let k = plays s id q v pass number low (subst (λ n. n < 2 ^ 64) at below) may in
       let t : Told q found v k.0 = subst (λ n. Told q n v k.0) (sym at) k.1 in
       let e = law s id q found v k.0 pass (low, at) may t in (
-        record { later = k.0; moves = moves q found v k.0 t; legal = is.1 (core_shown stored start s) id q e.legal; core = e.core ∙ sym (is.2 (core_shown stored start s) id q) },
+        acts-at stored start keeps tied tells s id q (left found) act all (f found) v k.0 (moves q found v k.0 t)
+        (is.1 (core_shown stored start s) id q e.legal)
+        (ap (λ (y : State). y.pages) (e.core ∙ sym (is.2 (core_shown stored start s) id q))),
         e.sees,
       ))
       is.0 is.2 is.3
@@ -81,8 +83,8 @@ module _ {X B : Type 0} (stored : B → Stored) (keeps : Start → Kept X → Ty
         (exchanged_to expects (word_of LOCKED (version_of expects))) (λ id h. LockX id h expects)
         (λ v h found. exchange_sees expects found) (acts.LockX expects) (λ n y. if eqb n expects then locks y else y)
         (λ y id h l. l, λ y id h l. l, λ y id h. refl, λ y heads owners id h. refl)
-        (λ q n u w t. moves-from _ q t.brings (moves-either (eqb n expects) locks q u (locked_view q t.held (last_of w q).words u)
-        (moves-put locks q u _ refl refl refl)))
+        (λ q n u w t. moves-from all _ q t.brings (moves-either (eqb n expects) locks q u (locked_view q t.held (last_of w q).words u)
+        (moves-put locks q u _ refl refl refl refl)))
         (λ s id q v pass number low below may.
         let k = lock_exclusive-plays stored keeps tied tells law start s pass.rule id v pass.there pass.live number q expects low may in
         (k.0, k.2))
@@ -97,8 +99,8 @@ module _ {X B : Type 0} (stored : B → Stored) (keeps : Start → Kept X → Ty
         (exchanged_to expects (word_of 1 (version_of expects))) (λ id h. LockW id h expects)
         (λ v h found. exchange_sees expects found) (acts.LockW expects) (λ n y. if eqb n expects then writes y else y)
         (λ y id h l. l, λ y id h l. l, λ y id h. refl, λ y heads owners id h. refl)
-        (λ q n u w t. moves-from _ q t.brings (moves-either (eqb n expects) writes q u (write_locked_view q t.held u)
-        (moves-put writes q u _ refl refl refl)))
+        (λ q n u w t. moves-from all _ q t.brings (moves-either (eqb n expects) writes q u (write_locked_view q t.held u)
+        (moves-put writes q u _ refl refl refl refl)))
         (λ s id q v pass number low below may.
         let k = lock_write_back-plays stored keeps tied tells law start s pass.rule id v pass.there pass.live number q expects low may in
         (k.0, k.2))
@@ -113,8 +115,8 @@ module _ {X B : Type 0} (stored : B → Stored) (keeps : Start → Kept X → Ty
         (exchanged_to expects (word_of LOCKED (version_of expects))) (λ id h. Upgrade id h expects)
         (λ v h found. exchange_sees expects found) (acts.Upgrade expects) (λ n y. if eqb n expects then raised y else y)
         (λ y id h l. l, λ y id h l. l, λ y id h. refl, λ y heads owners id h. refl)
-        (λ q n u w t. moves-from _ q t.brings (moves-either (eqb n expects) raised q u (upgraded_view q (last_of w q).words u)
-        (moves-put raised q u _ refl refl refl)))
+        (λ q n u w t. moves-from all _ q t.brings (moves-either (eqb n expects) raised q u (upgraded_view q (last_of w q).words u)
+        (moves-put raised q u _ refl refl refl refl)))
         (λ s id q v pass number low below may.
         let k = upgrade-plays stored keeps tied tells law start s pass.rule id v pass.there pass.live number q expects low may in
         (k.0, k.2))
@@ -134,8 +136,8 @@ module _ {X B : Type 0} (stored : B → Stored) (keeps : Start → Kept X → Ty
           (λ id h. LockS id h expects)
           (λ v h found. exchange_sees expects found) (acts.LockS expects) (λ n y. if eqb n expects then shares y else y)
           (λ y id h l. l, λ y id h l. l, λ y id h. refl, λ y heads owners id h. refl)
-          (λ q n u w t. moves-from _ q t.brings (moves-either (eqb n expects) shares q u (shared_view q t.held None u)
-          (moves-put shares q u _ refl refl refl)))
+          (λ q n u w t. moves-from all _ q t.brings (moves-either (eqb n expects) shares q u (shared_view q t.held None u)
+          (moves-put shares q u _ refl refl refl refl)))
           (λ s id q v pass number low below may.
           let k = lock_shared-plays stored keeps tied tells law may_hold says start s pass.rule id v pass.there pass.live number q expects None low may (inl refl) in
           (k.0, k.2.0))
@@ -152,17 +154,16 @@ module _ {X B : Type 0} (stored : B → Stored) (keeps : Start → Kept X → Ty
       look_group-event said start =
           are-events stored start keeps tied tells (λ q v. Unit {0}) (λ q. LookTold tied q (said q)) (λ found. found) (λ id h. Look id h)
           (λ v h found. sights.Look found (left_at found (seat_of v h).reading)) acts.Look looks
-          (λ q n u w t. moves-from (looks n) q t.brings (moves-put (looks n) q u (looked_view q (said q) n (last_of w q).words u) refl refl refl))
+          (λ q n u w t. moves-from all (looks n) q t.brings (moves-put (looks n) q u (looked_view q (said q) n (last_of w q).words u) refl refl refl refl))
           (λ s id q found v pass number low at below may.
           let k = look-plays stored keeps tied tells may_read reads law start s pass.rule id v pass.there pass.live number q None low (inl refl) in
           let t : LookTold tied q None found v k.0 = subst (λ n. LookTold tied q None n v k.0) (sym at) k.2.0 in
           let e = look-event stored keeps tied tells start s id q found None v k.0 pass (low, at) t in (
-            record {
-              later = k.0;
-              moves = moves-from (looks found) q t.brings (moves-put (looks found) q v (looked_view q None found (last_of k.0 q).words v) refl refl refl);
-              legal = e.legal;
-              core = ap (λ words. core_shown stored start (table_after s words id k.0)) (ap (slice_set s.words q) at ∙ set-own s.words q) ∙ e.core;
-            },
+            acts-at stored start keeps tied tells s id q found acts.Look all (looks found) v k.0
+            (moves-from all (looks found) q t.brings (moves-put (looks found) q v (looked_view q None found (last_of k.0 q).words v) refl refl refl refl))
+            e.legal
+            (ap (λ words. (core_shown stored start (table_after s words id k.0)).pages) (ap (slice_set s.words q) at ∙ set-own s.words q)
+            ∙ ap (λ (y : State). y.pages) e.core),
             e.sees,
           ))
           (λ y id h l. l) (λ y id h. refl) (λ y heads owners id h. refl)
@@ -173,7 +174,7 @@ module _ {X B : Type 0} (stored : B → Stored) (keeps : Start → Kept X → Ty
       (exchanged_to expects (word_of MARKED (version_of expects))) (λ id h. Mark id h expects)
       (λ v h found. exchange_sees expects found) (acts.Mark expects) (λ n y. y)
       (λ y id h l. l, λ y id h l. l, λ y id h. refl, λ y heads owners id h. refl)
-      (λ q n u w t. moves-from _ q t.brings (record { here = refl; there = λ p ne. refl; out = refl; holds = refl }))
+      (λ q n u w t. moves-from all _ q t.brings (moves-none q u))
       (λ s id q v pass number low below may.
       let k = mark-plays stored keeps tied start tells s pass.rule id v pass.there pass.live number q expects low may in
       (k.0, k.2))
@@ -185,7 +186,7 @@ module _ {X B : Type 0} (stored : B → Stored) (keeps : Start → Kept X → Ty
       (exchanged_to expects (word_of UNLOCKED (version_of expects))) (λ id h. Unmark id h expects)
       (λ v h found. exchange_sees expects found) (acts.Unmark expects) (λ n y. y)
       (λ y id h l. l, λ y id h l. l, λ y id h. refl, λ y heads owners id h. refl)
-      (λ q n u w t. moves-from _ q t.brings (record { here = refl; there = λ p ne. refl; out = refl; holds = refl }))
+      (λ q n u w t. moves-from all _ q t.brings (moves-none q u))
       (λ s id q v pass number low below may.
       let k = unmark-plays stored keeps tied start tells s pass.rule id v pass.there pass.live number q expects low may in
       (k.0, k.2))
@@ -196,7 +197,7 @@ module _ {X B : Type 0} (stored : B → Stored) (keeps : Start → Kept X → Ty
       kind start (λ q v. MayUnshare v q) UnshareTold (λ found. found - 2 ^ 56) (λ id h. UnlockS id h)
       (λ v h found. sights.Word found) acts.UnlockS (λ n y. unshared y)
       (λ y id h l. l, λ y id h l. l, λ y id h. refl, λ y heads owners id h. refl)
-      (λ q n u w t. moves-from _ q t.brings (moves-put unshared q u (unshared_view q u) refl refl refl))
+      (λ q n u w t. moves-from all _ q t.brings (moves-put unshared q u (unshared_view q u) refl refl refl refl))
       (λ s id q v pass number low below may.
       let k = unlock_shared-plays stored keeps tied tells start s pass.rule id v pass.there pass.live number q low may below in
       (k.0, k.2))

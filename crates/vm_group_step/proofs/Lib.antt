@@ -2,3 +2,4 @@ pub mod Placed
 pub mod Each
 pub mod GroupEvents
 pub mod EventKinds
+pub mod ReleaseEvents

@@ -1,16 +1,19 @@
 -- The events of the steps on a group's word, a definition for each kind.
-use Rattle.std.specs.Prelude.{◌-◌, ◌+◌, ◌<◌, ◌==◌, ◌^◌, ◌≡◌, Bool, if◌then◌else◌, List, None, Option, ℕ}
+use Rattle.std.specs.Prelude.{[], ◌-◌, ◌+◌, ◌<◌, ◌==◌, ◌^◌, ◌≡◌, Bool, if◌then◌else◌, List, None, Option, slice_set, ℕ}
 use Rattle.vm_event.specs.Prelude.{EVICTED, LOCKED, MARKED, MAX_VERSION, MayLock, MayShare, one_share_more, state_of}
 use Rattle.vm_event.specs.Prelude.{UNLOCKED, version_of, word_of}
 use Rattle.vm_event.specs.declared.event.Event.TheVariants.{LockS, LockW, LockX, Look, Mark, ReleaseE, UnlockS, Unmark}
-use Rattle.vm_event.specs.declared.event.Event.TheVariants.{Upgrade}
+use Rattle.vm_event.specs.declared.event.Event.TheVariants.{Release, Upgrade}
 use Rattle.vm_event.specs.declared.event.Seen.TheVariants as sights
+use Rattle.vm_event.specs.Groups.{head_in}
+use Rattle.vm_owner.specs.{declared.Entry.Entry, Kept.Change}
 use Rattle.vm_rule.specs.{Looks.left_at, Locks.MarkTold, Locks.MayRaiseLock, Locks.UpgradeTold, Locks.WriteLockTold}
-use Rattle.vm_rule.specs.declared.view.Origin.{Origin}
-use Rattle.vm_rule.specs.Prelude.{EvictTold, Kept, LockTold, LookTold, seat_of, ShareTold, Start, Stored, UnshareTold}
-use Rattle.vm_step.specs.Prelude.{exchange_sees}
-use Rattle.vm_step.specs.steps.{Release.MayEvict, Share.MayUnshare}
-use Rattle.vm_group_step.specs.Events.{AreEventsOver}
+use Rattle.vm_rule.specs.{declared.view.Origin.Origin, declared.view.View.View, Spread.group_of}
+use Rattle.vm_rule.specs.Prelude.{EvictTold, Kept, LockTold, LookTold, ReleaseTold, seat_of, ShareTold}
+use Rattle.vm_rule.specs.Prelude.{Start, Stored, Table, UnshareTold}
+use Rattle.vm_step.specs.{Over.InTurn, Prelude.exchange_sees, Prelude.table_after}
+use Rattle.vm_step.specs.steps.{Release.MayEvict, Release.MayGiveUpAll, Share.MayUnshare}
+use Rattle.vm_group_step.specs.Events.{AreEventsOver, IsEventOver, MayStepOver}
 
 -- the word that an exchange leaves
 abbrev pub exchanged_to : ℕ → ℕ → ℕ → ℕ
@@ -84,3 +87,14 @@ module _ {X B : Type 0} (stored : B → Stored) (keeps : Start → Kept X → Ty
       (start : Origin) (version : ℕ) → version < MAX_VERSION → AreEventsOver {X = X} {B = B} stored start keeps tied tells
       (λ q v. MayEvict v q version) (λ q n v w. EvictTold q version v w) (λ _. word_of EVICTED (version + 1))
       (λ id h. ReleaseE id h) (λ v h found. sights.Done)
+
+  -- A group's release sees nothing: each of its pages is Unlocked at its next version, with its draft for words, where
+  -- the pages could be released together.
+  abbrev pub ReleaseGroupIsItsEvent : (Start → List ℕ → List Change → List (Entry X) → Type 0) → Type 0
+  ReleaseGroupIsItsEvent may_release =
+      (start : Origin) (s : Table (Option B) (View X)) (id h version : ℕ) (rest : List ℕ) (said : Option X) (v w : View X)
+      → MayStepOver stored start keeps tied tells s id v → h < start.pages → head_in start.groups h ≡ h
+      → version < MAX_VERSION → MayGiveUpAll may_release (group_of start.groups h) h version rest said v
+      → InTurn (λ q _. ReleaseTold q version (if q == h then rest else []) (if q == h then said else None))
+      (group_of start.groups h) (version + 1) v w
+      → IsEventOver stored start s (table_after s (slice_set s.words h (version + 1)) id w) (Release id h) sights.Done

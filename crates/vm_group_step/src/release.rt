@@ -4,6 +4,7 @@ ghost use Rattle.vm_event.specs.Prelude.{EVICTED, MAX_VERSION, word_of};
 ghost use Rattle.vm_rule.specs.Prelude.{EvictTold};
 ghost use Rattle.vm_step.specs.Prelude.{GoesOn, MayEvict, MayStep, ReleaseTells, view};
 ghost use Rattle.vm_step.specs.{Over.InTurn, steps.Release.MayGiveUpAll, steps.Release.ReleaseTellsOf};
+ghost use Rattle.vm_group_step.specs.EventKinds.{ReleaseGroupEvictedIsItsEvent, ReleaseGroupIsItsEvent};
 ghost use Rattle.vm_group_step.specs.Heads.{EachUnder, IsHead, pages_under};
 
 use std::marker::Brand;
@@ -56,3 +57,13 @@ pub fn release_group_evicted<U: Owner, B: Block>(
     let new = StateWord::of(StateWord::EVICTED, version + 1);
     store::<U, B, (u32, u64), Brand>(words, pass, at, new, (h, version));
 }
+
+/// A group's release is one event of the machine with groups.
+pub fn release_group_is_its_event<U: Owner, B: Block>()
+    ensures { ReleaseGroupIsItsEvent B.stored U.keeps U.tied B.tells U.may_release }
+{}
+
+/// So is one as Evicted.
+pub fn release_group_evicted_is_its_event<U: Owner, B: Block>()
+    ensures { ReleaseGroupEvictedIsItsEvent B.stored U.keeps U.tied B.tells }
+{}
