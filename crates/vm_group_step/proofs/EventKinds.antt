@@ -66,8 +66,8 @@ module _ {X B : Type 0} (stored : B → Stored) (keeps : Start → Kept X → Ty
       let t : Told q found v k.0 = subst (λ n. Told q n v k.0) (sym at) k.1 in
       let e = law s id q found v k.0 pass (low, at) may t in (
         acts-at stored start keeps tied tells s id q (left found) act all (f found) v k.0 (moves q found v k.0 t)
-        (is.1 (core_shown stored start s) id q e.legal)
-        (ap (λ (y : State). y.pages) (e.core ∙ sym (is.2 (core_shown stored start s) id q))),
+            (is.1 (core_shown stored start s) id q e.legal)
+            (ap (λ (y : State). y.pages) (e.core ∙ sym (is.2 (core_shown stored start s) id q))),
         e.sees,
       ))
       is.0 is.2 is.3
@@ -160,10 +160,10 @@ module _ {X B : Type 0} (stored : B → Stored) (keeps : Start → Kept X → Ty
           let t : LookTold tied q None found v k.0 = subst (λ n. LookTold tied q None n v k.0) (sym at) k.2.0 in
           let e = look-event stored keeps tied tells start s id q found None v k.0 pass (low, at) t in (
             acts-at stored start keeps tied tells s id q found acts.Look all (looks found) v k.0
-            (moves-from all (looks found) q t.brings (moves-put (looks found) q v (looked_view q None found (last_of k.0 q).words v) refl refl refl refl))
-            e.legal
-            (ap (λ words. (core_shown stored start (table_after s words id k.0)).pages) (ap (slice_set s.words q) at ∙ set-own s.words q)
-            ∙ ap (λ (y : State). y.pages) e.core),
+                (moves-from all (looks found) q t.brings (moves-put (looks found) q v (looked_view q None found (last_of k.0 q).words v) refl refl refl refl))
+                e.legal
+                (ap (λ words. (core_shown stored start (table_after s words id k.0)).pages) (ap (slice_set s.words q) at ∙ set-own s.words q)
+                ∙ ap (λ (y : State). y.pages) e.core),
             e.sees,
           ))
           (λ y id h l. l) (λ y id h. refl) (λ y heads owners id h. refl)

@@ -3,3 +3,4 @@ pub mod Each
 pub mod GroupEvents
 pub mod EventKinds
 pub mod ReleaseEvents
+pub mod ElsewhereEvents

@@ -51,7 +51,7 @@ kept-over heads h f keep keep' same =
     fun_ext (λ q. ⊎_elim (λ e. rw (eq-eqb (heads q) h e) (ap (λ b. b && f q) (same q e))) (λ ne. rw (ne_eqb (heads q) h ne) refl)
     (cases_eq (heads q) h))
 
-owner-past : (groups : List (ℕ × ℕ)) (q : ℕ) → owner_over groups (q + 1) ≡ head_in groups q + 1
+pub owner-past : (groups : List (ℕ × ℕ)) (q : ℕ) → owner_over groups (q + 1) ≡ head_in groups q + 1
 owner-past groups q =
     let past : q + 1 ≡ suc q = omega arith in
     let next : suc (head_in groups q) ≡ head_in groups q + 1 = omega arith in

@@ -1,3 +1,4 @@
+pub mod Elsewhere
 pub mod Events
 pub mod Heads
 pub mod EventKinds

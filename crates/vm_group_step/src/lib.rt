@@ -3,6 +3,7 @@
 //! itself here. The steps at one page stand in `vm_step`, over whose operations these are.
 #![tactic(auto)]
 
+mod elsewhere;
 mod lock;
 mod look;
 mod mark;
@@ -15,6 +16,8 @@ pub use lock::{
 };
 pub use look::{look_group, look_group_is_its_event, look_group_saying};
 pub use mark::{mark_group, mark_group_is_its_event, unmark_group, unmark_group_is_its_event};
-pub use release::{release_group, release_group_evicted};
-pub use release::{release_group_evicted_is_its_event, release_group_is_its_event};
+pub use release::{
+    release_group, release_group_evicted, release_group_evicted_is_its_event,
+    release_group_is_its_event,
+};
 pub use share::{share_group, share_group_is_its_event, unshare_group, unshare_group_is_its_event};
