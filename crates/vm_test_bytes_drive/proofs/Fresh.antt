@@ -1,5 +1,5 @@
 -- The first pass of a pool has fresh parts enough.
-use Rattle.std.proofs.Common.{◌<◌, ◌∙◌, ◌≡◌, ◌≤◌, ap, arith, Bool, length, List, refl, suc, zero, ℕ}
+use Rattle.std.proofs.Common.{[], ◌<◌, ◌∙◌, ◌≡◌, ◌≤◌, ap, arith, Bool, length, List, refl, suc, zero, ℕ}
 use Rattle.vm_rule.specs.Prelude.{numbers, started_shape, Stored, unborn}
 use Rattle.vm_rule.specs.Begun.{begun}
 use Rattle.vm_step.specs.Prelude.{View}
