@@ -20,16 +20,19 @@ fn a_hand_puts_and_gets(rt: HostRuntime) -> Result<(), Fail> {
     let Ok(mut hand) = store.hand(alloc) else {
         return Err(Fail::from("no hand"));
     };
-    let put = hand.put(5, 7, 100);
-    let swapped = hand.swap(5, 7, 8, 100);
-    let got = hand.get(5, 100);
-    let gone = hand.del(6, 100);
+    let put = matches!(hand.put(5, 7, 100), Ok(Some(Reply::Was(None))));
+    let swapped = matches!(
+        hand.swap(5, 7, 8, 100),
+        Ok(Some(Reply::Swapped(Swap::Done)))
+    );
+    let got = matches!(hand.get(5, 100), Ok(Some(Reply::Got(Some(8)))));
+    let gone = matches!(hand.del(6, 100), Ok(Some(Reply::Gone(None))));
     hand.leave();
     store.take_in();
-    assert!(rt; matches!(put, Ok(Some(Reply::Was(None)))));
-    assert!(rt; matches!(swapped, Ok(Some(Reply::Swapped(Swap::Done)))));
-    assert!(rt; matches!(got, Ok(Some(Reply::Got(Some(8))))));
-    assert!(rt; matches!(gone, Ok(Some(Reply::Gone(None)))));
+    assert!(rt; put);
+    assert!(rt; swapped);
+    assert!(rt; got);
+    assert!(rt; gone);
     let Ok(end) = store.close(alloc) else {
         return Err(Fail::from("not closed"));
     };
@@ -59,15 +62,15 @@ fn a_hand_reads_pairs(rt: HostRuntime) -> Result<(), Fail> {
     let Ok(mut hand) = store.hand(alloc) else {
         return Err(Fail::from("no hand"));
     };
-    let none = hand.put(5, 7, 0);
-    let put = hand.put(5, 7, 100);
-    let window = hand.window(0, 28, 100);
-    let range = hand.range(0, Bound::End, &mut out, 100);
-    assert!(rt; matches!(none, Ok(None)));
-    assert!(rt; matches!(put, Ok(Some(Reply::Was(None)))));
     let pair = Pair { key: 5, value: 7 };
-    assert!(rt; shows(&window, pair));
-    assert!(rt; shows(&range, pair));
+    let none = matches!(hand.put(5, 7, 0), Ok(None));
+    let put = matches!(hand.put(5, 7, 100), Ok(Some(Reply::Was(None))));
+    let window = shows(&hand.window(0, 28, 100), pair);
+    let range = shows(&hand.range(0, Bound::End, &mut out, 100), pair);
+    assert!(rt; none);
+    assert!(rt; put);
+    assert!(rt; window);
+    assert!(rt; range);
     Ok(())
 }
 
@@ -98,12 +101,15 @@ fn a_hand_that_left_is_taken_in(rt: HostRuntime) -> Result<(), Fail> {
     let Ok(mut store) = open_image::<Sizes, WORDS>(alloc, file.as_slice(), 64) else {
         return Err(Fail::from("no store"));
     };
-    let (Ok(mut hand), Ok(other)) = (store.hand(alloc), store.hand(alloc)) else {
+    let Ok(other) = store.hand(alloc) else {
         return Err(Fail::from("no hand"));
     };
-    let put = hand.put(5, 7, 100);
-    assert!(rt; matches!(put, Ok(Some(Reply::Was(None)))));
+    let Ok(mut hand) = store.hand(alloc) else {
+        return Err(Fail::from("no other hand"));
+    };
+    let put = matches!(hand.put(5, 7, 100), Ok(Some(Reply::Was(None))));
     hand.leave();
+    assert!(rt; put);
     assert_eq!(rt; store.out(), 2);
     store.take_in();
     assert_eq!(rt; store.out(), 1);

@@ -104,12 +104,14 @@ fn a_large_page_is_brought_once(rt: HostRuntime) -> Result<(), Fail> {
 fn a_page_whose_block_failed_is_brought_later(rt: HostRuntime) -> Result<(), Fail> {
     let (words, mut pass) = one_page::<WORDS>(rt.alloc(), 63, 0, &[1])?;
     take_both(&rt, &words, &mut pass);
-    let Fetch::Device { frame, pid, count } = fault_in::<Bare, MemBlock<WORDS>, WORDS>(
-        &words, &mut pass, 0, 0,
-    ) else {
-        panic!(rt; "the first read fails");
-    };
-    assert_eq!(rt; (frame, pid, count), (0, 0, 1));
+    assert_eq!(rt;
+        fault_in::<Bare, MemBlock<WORDS>, WORDS>(&words, &mut pass, 0, 0),
+        Fetch::Device {
+            frame: 0,
+            pid: 0,
+            count: 1,
+        }
+    );
     assert_eq!(rt;
         fault_in::<Bare, MemBlock<WORDS>, WORDS>(&words, &mut pass, 0, 0),
         Fetch::Brought

@@ -118,8 +118,11 @@ fn expect_word(rt: &impl Abort, block: &mut MemBlock<WORDS>, i: usize, w: u64)
 fn expect_words(rt: &impl Abort, mut blocks: Vec<MemBlock<WORDS>>, i: usize, words: (u64, u64))
     requires { i < WORDS }
 {
-    let (Some(mut second), Some(mut first)) = (blocks.pop(), blocks.pop()) else {
+    let Some(mut second) = blocks.pop() else {
         panic!(rt; "there are two blocks");
+    };
+    let Some(mut first) = blocks.pop() else {
+        panic!(rt; "there is one block more");
     };
     assert_eq!(rt; blocks.len(), 0);
     expect_word(rt, &mut first, i, words.0);
@@ -128,8 +131,11 @@ fn expect_words(rt: &impl Abort, mut blocks: Vec<MemBlock<WORDS>>, i: usize, wor
 
 /// Of two blocks of large pages the second has a word behind a small page's end and its last one, and the first has neither.
 fn expect_large_words(rt: &impl Abort, mut blocks: Vec<MemBlock<LARGE>>) {
-    let (Some(mut second), Some(mut first)) = (blocks.pop(), blocks.pop()) else {
+    let Some(mut second) = blocks.pop() else {
         panic!(rt; "there are two blocks");
+    };
+    let Some(mut first) = blocks.pop() else {
+        panic!(rt; "there is one block more");
     };
     let mut read = PageBuf::zero();
     let answered = second.read(&mut read).is_ok();
