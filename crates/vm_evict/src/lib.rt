@@ -21,6 +21,7 @@ use vm_block::PageBlock;
 use vm_owner::Ungrouped;
 use vm_rule::words::{Pass, Words};
 use vm_supply::step::Candidates;
+pub use write::write_where_dirty;
 
 /// Evicts candidates, in phases: dirty ones are shared from their mark and written; clean ones are locked exclusively; the written ones become
 /// exclusive from one share; all are taken out of their frames; all are released as evicted. A page whose write fails stays resident and dirty.

@@ -7,7 +7,7 @@ ghost use Rattle.vm_evict.specs.Writes.{EndsWrite, IsCopied, IsDirtyFrame, IsFou
 
 use vm_block::{Block, PageBlock};
 use vm_event::TransWord;
-use vm_owner::Ungrouped;
+use vm_owner::Owner;
 use vm_page::PageBuf;
 use vm_rule::words::{Pass, Words};
 use vm_supply::step::{frame_place, load_at, set_clean, tload};
@@ -25,7 +25,7 @@ pub(crate) fn dirty_frame(word: u64) -> Option<u32>
 }
 
 /// The words of a page that the pass shares, from its frame.
-fn copy_page<U: Ungrouped, B: Block, const N: usize>(
+fn copy_page<U: Owner, B: Block, const N: usize>(
     words: &Words<U, B>,
     pass: &mut Pass<U>,
     p: u32,
@@ -50,7 +50,7 @@ fn copy_page<U: Ungrouped, B: Block, const N: usize>(
 
 /// Writes a dirty page to its block and makes it clean: the pass has it under write-back, and a load found it in this frame. Where the write
 /// fails, the page stays as it is, and the answer is the count of the fault, which the fault word is raised to.
-fn write_back<U: Ungrouped, B: PageBlock<N>, const N: usize>(
+fn write_back<U: Owner, B: PageBlock<N>, const N: usize>(
     words: &Words<U, B>,
     pass: &mut Pass<U>,
     p: u32,
@@ -82,7 +82,7 @@ fn write_back<U: Ungrouped, B: PageBlock<N>, const N: usize>(
 }
 
 /// Writes a page, which the pass has under write-back, where it is dirty. It answers whether it was, or the count of the fault.
-pub(crate) fn write_where_dirty<U: Ungrouped, B: PageBlock<N>, const N: usize>(
+pub fn write_where_dirty<U: Owner, B: PageBlock<N>, const N: usize>(
     words: &Words<U, B>,
     pass: &mut Pass<U>,
     p: u32,
