@@ -1,0 +1,16 @@
+pub mod Prelude
+pub mod Pages
+pub mod PagesUnder
+pub mod Turns
+pub mod Quiet
+pub mod Translating
+pub mod Reading
+pub mod Denials
+pub mod Beginning
+pub mod Validating
+pub mod Holding
+pub mod Beside
+pub mod Locking
+pub mod Refusals
+pub mod Guards
+pub mod Releasing
