@@ -2,11 +2,13 @@
 -- drafts logical.
 use Rattle.std.proofs.Common.{slice_index_or}
 use Rattle.vm_guard.proofs.Prelude.{append-none, eq-eqb, ne_eqb}
-use Rattle.std.specs.Prelude.{if◌then◌else◌, IsSome, ◌==◌}
+use Rattle.std.specs.Prelude.{if◌then◌else◌, IsSome, ◌&&◌, ◌++◌, ◌==◌}
+use Rattle.vm_page.specs.Pages.{all_zero}
+use Rattle.vm_rule.specs.Releases.{freed_by}
 use Rattle.vm_event.specs.Prelude.{MAX_VERSION}
 use Rattle.vm_guard.proofs.GroupReleases.{group-released}
 use Rattle.vm_guard.proofs.Groups.{first-or-rest, members-of}
-use Rattle.vm_guard.specs.Groups.{AreGivenUp, AreReleased, pids_of}
+use Rattle.vm_guard.specs.Groups.{AreGivenUp, AreReleased, next_after_all, pids_of}
 use Rattle.vm_guard.specs.Guards.{IsHolding}
 use Rattle.vm_owner.specs.Kept.{Change}
 use Rattle.vm_rule.specs.Prelude.{draft_of, ReleaseTold, StartsWith, without_all}
@@ -182,8 +184,17 @@ module _ {X : Type 0} where
             beside = guards-beside h version (s ∷ ss) v w r.beside;
             mine = r.mine;
             entry = r.entry;
-            group = (r.group.0, r.group.1 ∙ ap (λ (qs : List ℕ). without_all qs v.owed) pids);
+            group = (
+              r.group.0,
+              r.group.1 ∙ ap (λ (qs : List ℕ). without_all qs v.owed) pids,
+              r.group.2 ∙ ap (λ (qs : List ℕ). next_after_all qs v.next) pids,
+            );
+            freed = r.freed ∙ ap (λ (qs : List ℕ). freed_by v qs ++ v.freed) pids;
             seats = λ q is. r.seats q (subst (λ qs. has q qs ≡ true) (sym pids) (numbers-has size h q is.0 is.1));
             released = told-released h size v w told;
+            loads = r.loads;
             current = r.current;
+            numbers = λ q. r.numbers q
+                ∙ ap (λ (qs : List ℕ). if has q qs then (v.start.tells && all_zero (draft_of v q)) && has q v.numbers
+                else has q v.numbers) pids;
           }

@@ -1,10 +1,12 @@
 -- A group that is released: all its drafts are logical at one point, by one step on its word.
-use Rattle.std.specs.Prelude.{false, List, map, None, Option, true, ℕ, ◌++◌, ◌+◌, ◌≡◌, ◌⊎◌}
+use Rattle.std.specs.Prelude.{false, if◌then◌else◌, List, map, None, Option, true, ℕ, ◌&&◌, ◌++◌, ◌+◌, ◌≡◌, ◌⊎◌}
+use Rattle.vm_page.specs.Pages.{all_zero}
 use Rattle.vm_rule.specs.Prelude.{AreUnchanged, began_of, Change, changes_of, did_store, draft_of, entries_of, Entry}
-use Rattle.vm_rule.specs.Prelude.{last_of, numbers, seat_of, Start, StartsWith, without_all}
+use Rattle.vm_rule.specs.Prelude.{has, last_of, loads_at, numbers, seat_of, Start, StartsWith, without_all}
+use Rattle.vm_rule.specs.Releases.{freed_by}
 use Rattle.vm_rule.specs.declared.view.WordPlace.{WordPlace}
 use Rattle.vm_step.specs.Prelude.{Did, IsClaimed, IsNotOut, Release, View}
-use Rattle.vm_guard.specs.Groups.{IsBeside}
+use Rattle.vm_guard.specs.Groups.{IsBeside, next_after_all}
 use Rattle.vm_group_guard.specs.Group.{IsUnder}
 
 -- the steps that release these pages, which were locked at this version
@@ -42,6 +44,15 @@ module _ {X : Type 0} where
     pub mine : w.mine ≡ v.mine ++ entries_of v said
     pub entry : (others more : List (Entry X)) × (w.seen ≡ ((v.seen ++ others) ++ entries_of v said) ++ more)
     pub group : (w.pending ≡ v.pending) × (w.owed ≡ without_all (numbers h size) v.owed)
+        × (w.next ≡ next_after_all (numbers h size) v.next)
+    -- the pass has still to give the numbers of the pages that the group frees: their words were not all 0, and are now
+    pub freed : w.freed ≡ freed_by v (numbers h size) ++ v.freed
     pub seats : (q : ℕ) → IsUnder h size q → seat_of w q ≡ record (seat_of v q) { exclusive = false }
     pub released : (q : ℕ) → IsUnder h size q → WasReleased q (version + 1) (draft_of v q) w
+    pub loads : (q : ℕ) → loads_at w q ≡ loads_at v q
     pub current : w.current ≡ true
+    -- it holds the numbers that it held, but those of these pages whose words are not all 0; where the blocks do not
+    -- tell their words, of none of these pages
+    pub numbers : (q : ℕ) → has q w.numbers
+        ≡ (if has q (numbers h size) then (v.start.tells && all_zero (draft_of v q)) && has q v.numbers
+        else has q v.numbers)
